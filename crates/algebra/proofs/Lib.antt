@@ -1,0 +1,5 @@
+pub mod Ring
+pub mod Signs
+pub mod Members
+pub mod Parity
+pub mod Worked

@@ -1,0 +1,7 @@
+-- Being one of the things of a list.
+use mathlib.Core.List.{List, [], _∷_}
+
+infix 20 _∈_
+pub data _∈_ {A : Type 0} (a : A) : List A → Type 0 where
+  here : {zs : List A} → a ∈ (a ∷ zs)
+  there : {b : A} {zs : List A} → a ∈ zs → a ∈ (b ∷ zs)

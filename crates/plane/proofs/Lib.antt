@@ -1,0 +1,4 @@
+pub mod Bounds
+pub mod Points
+pub mod RowOrder
+pub mod Tests

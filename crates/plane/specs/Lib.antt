@@ -1,0 +1,4 @@
+pub mod Points
+pub mod Spots
+pub mod Rows
+pub mod Meeting

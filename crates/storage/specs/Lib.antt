@@ -1,0 +1,5 @@
+pub mod Rows
+pub mod Gaps
+pub mod Entries
+pub mod Bytes
+pub mod Shift
