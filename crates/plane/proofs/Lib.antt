@@ -1,4 +1,14 @@
+pub mod Any
 pub mod Bounds
+pub mod Bridge
+pub mod Crossed
+pub mod Cuts
+pub mod Meetings
+pub mod Pairs
 pub mod Points
 pub mod RowOrder
+pub mod Sharing
+pub mod Standing
+pub mod Steps
 pub mod Tests
+pub mod Weights

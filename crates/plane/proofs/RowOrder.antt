@@ -15,7 +15,7 @@ use Rattle.algebra.proofs.Members.{Case, case, holds, fails, apart}
 use Rattle.plane.specs.declared.halfsegment.Halfsegment.{Halfsegment}
 use Rattle.plane.specs.Points.{eqZ, same-point, precedes, orientation}
 use Rattle.plane.specs.Rows.{left, reach, swept-first, earlier, comes-before, Long, Row-order}
-use Rattle.plane.proofs.Points.{Precedes, Ways, ways, point-is, same-point-is, same-point-holds, precedes-is, precedes-holds, precedes-self, precedes-transitive}
+use Rattle.plane.proofs.Points.{Before, Lex, first, last, one, lex, points-equal, same-point-is, same-point-holds, before-of, of-before, precedes-self, precedes-transitive}
 
 -- vectors (x, y): the cross product, the square of the length, and a linear function; each as an expression too
 abbrev cross : ℤ → ℤ → ℤ → ℤ → ℤ
@@ -175,7 +175,7 @@ Aimed t h = Ahead (way t *ℤ across h) (way t *ℤ rise h)
 
 -- the vector is ahead if the halfsegment is left, else it is the other way
 aimed : (h : Halfsegment) → Long h → Aimed (left h) h
-aimed h n = go (case (left h)) (ways (h .dominating) (h .far))
+aimed h n = go (case (left h)) (lex (h .dominating) (h .far))
   where
     once : (z : ℤ) → pos 1 *ℤ z ≡ z
     once z = ring (z ∷ []) (unit ⊗ var 0) (var 0) refl
@@ -183,19 +183,19 @@ aimed h n = go (case (left h)) (ways (h .dominating) (h .far))
     minus-once : (z : ℤ) → negsuc 0 *ℤ z ≡ negℤ z
     minus-once z = ring (z ∷ []) (minus-unit ⊗ var 0) (neg (var 0)) refl
 
-    on : Precedes (h .dominating) (h .far) → Aimed true h
+    on : Before (h .dominating) (h .far) → Aimed true h
     on (inl p) = inl (omega (arith, lin, once (across h)))
     on (inr (e, p)) = inr (omega (arith, lin, once (across h)), omega (arith, lin, once (rise h)))
 
-    off : Precedes (h .far) (h .dominating) → Aimed false h
+    off : Before (h .far) (h .dominating) → Aimed false h
     off (inl p) = inl (omega (arith, lin, minus-once (across h)))
     off (inr (e, p)) = inr (omega (arith, lin, minus-once (across h)), omega (arith, lin, minus-once (rise h)))
 
-    go : Case (left h) → Ways (h .dominating) (h .far) → Aimed (left h) h
-    go (holds e) p = subst (λ t. Aimed t h) (sym e) (on (precedes-is (h .dominating) (h .far) e))
-    go (fails e) (inl p) = absurd (apart (precedes-holds (h .dominating) (h .far) p) e)
-    go (fails e) (inr (inl p)) = absurd (n p)
-    go (fails e) (inr (inr p)) = subst (λ t. Aimed t h) (sym e) (off p)
+    go : Case (left h) → Lex (h .dominating) (h .far) → Aimed (left h) h
+    go (holds e) p = subst (λ t. Aimed t h) (sym e) (on (before-of (h .dominating) (h .far) e))
+    go (fails e) (first p) = absurd (apart (of-before (h .dominating) (h .far) p) e)
+    go (fails e) (one p) = absurd (n p)
+    go (fails e) (last p) = subst (λ t. Aimed t h) (sym e) (off p)
 
 -- all left or all right: on one side
 alike : (g h k : Halfsegment) → Long g → Long h → Long k → left g ≡ left h → left h ≡ left k → One-side (across g) (rise g) (across h) (rise h) (across k) (rise k)
@@ -245,7 +245,7 @@ earlier-comparable g h lg lh n u =
     go (inl (e, f)) =
         let x : g .far .x ≡ h .far .x = omega (arith, lin, ap (λ v. v .x) u) in
         let y : g .far .y ≡ h .far .y = omega (arith, lin, ap (λ v. v .y) u) in
-        absurd (n (λ i. record { dominating = u i; far = point-is (g .far) (h .far) x y i }))
+        absurd (n (λ i. record { dominating = u i; far = points-equal (g .far) (h .far) x y i }))
     go (inr (inl s)) = inl (sweeps-back g h u s)
     go (inr (inr s)) = inr (sweeps-back h g (sym u) s)
 
@@ -263,8 +263,8 @@ earlier-self h = go (left h) (swept-first h h) (still (orientation (h .far) (h .
 abbrev First : Halfsegment → Halfsegment → Type 0
 First g h = (precedes (g .dominating) (h .dominating) ≡ true) ⊎ ((g .dominating ≡ h .dominating) × (earlier g h ≡ true))
 
-first : (g h : Halfsegment) → comes-before g h ≡ true → First g h
-first g h e = go (or-cases (precedes (g .dominating) (h .dominating)) (same-point (g .dominating) (h .dominating) && earlier g h) e)
+first-of : (g h : Halfsegment) → comes-before g h ≡ true → First g h
+first-of g h e = go (or-cases (precedes (g .dominating) (h .dominating)) (same-point (g .dominating) (h .dominating) && earlier g h) e)
   where
     go : (precedes (g .dominating) (h .dominating) ≡ true) ⊎ ((same-point (g .dominating) (h .dominating) && earlier g h) ≡ true) → First g h
     go (inl p) = inl p
@@ -284,16 +284,16 @@ first-transitive g h k lg lh lk (inr (u, p)) (inl q) = inl (subst (λ z. precede
 first-transitive g h k lg lh lk (inr (u, p)) (inr (v, q)) = inr (u ∙ v, earlier-transitive g h k lg lh lk u v p q)
 
 first-comparable : (g h : Halfsegment) → Long g → Long h → ¬ (g ≡ h) → First g h ⊎ First h g
-first-comparable g h lg lh n = go (ways (g .dominating) (h .dominating))
+first-comparable g h lg lh n = go (lex (g .dominating) (h .dominating))
   where
     there : (u : g .dominating ≡ h .dominating) → (earlier g h ≡ true) ⊎ (earlier h g ≡ true) → First g h ⊎ First h g
     there u (inl p) = inl (inr (u, p))
     there u (inr p) = inr (inr (sym u, p))
 
-    go : Ways (g .dominating) (h .dominating) → First g h ⊎ First h g
-    go (inl p) = inl (inl (precedes-holds (g .dominating) (h .dominating) p))
-    go (inr (inl u)) = there u (earlier-comparable g h lg lh n u)
-    go (inr (inr p)) = inr (inl (precedes-holds (h .dominating) (g .dominating) p))
+    go : Lex (g .dominating) (h .dominating) → First g h ⊎ First h g
+    go (first p) = inl (inl (of-before (g .dominating) (h .dominating) p))
+    go (one u) = there u (earlier-comparable g h lg lh n u)
+    go (last p) = inr (inl (of-before (h .dominating) (g .dominating) p))
 
 never : (h : Halfsegment) → comes-before h h ≡ false
 never h = go (precedes (h .dominating) (h .dominating)) (same-point (h .dominating) (h .dominating)) (earlier h h) (precedes-self (h .dominating)) (earlier-self h)
@@ -304,7 +304,7 @@ never h = go (precedes (h .dominating) (h .dominating)) (same-point (h .dominati
 pub row-order : Row-order
 row-order = record {
   irreflexive = never;
-  transitive = λ g h k lg lh lk e f. first-back g k (first-transitive g h k lg lh lk (first g h e) (first h k f));
+  transitive = λ g h k lg lh lk e f. first-back g k (first-transitive g h k lg lh lk (first-of g h e) (first-of h k f));
   comparable = λ g h lg lh n. compared g h (first-comparable g h lg lh n);
 }
   where

@@ -9,5 +9,6 @@ pub use halfsegment::rows_are_ordered;
 pub use meeting::meet_improperly;
 pub use meeting::signs_tell_meetings;
 pub use point::Point;
+pub use point::PointPartialEq;
 pub use point::orientation;
 pub use segment::Segment;

@@ -1,4 +1,4 @@
-use Rattle.plane.proofs.Tests.{drawable-parts}
+use Rattle.plane.proofs.Steps.{drawable-parts}
 use Rattle.plane.proofs.meeting.has_inside.Needs as need
 
 pub is-inside-requires : need.is-inside-requires

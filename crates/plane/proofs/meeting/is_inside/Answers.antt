@@ -6,7 +6,7 @@ use lib.IntN.{pos}
 use mir.Syntax.{w64}
 use mir.Val.{ofZ}
 use Rattle.plane.specs.Points.{eqZ, precedes, orientation}
-use Rattle.plane.proofs.Tests.{is-zero, and-both}
+use Rattle.plane.proofs.Steps.{is-zero, and-both}
 use Rattle.plane.proofs.meeting.is_inside.Needs as need
 
 pub returns : need.returns

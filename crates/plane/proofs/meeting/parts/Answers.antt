@@ -1,7 +1,7 @@
 use mathlib.Core.Path.{ap₂, _∙_}
 use borrow.Author.Needs.{needs}
 use Rattle.plane.specs.Meeting.{opposite}
-use Rattle.plane.proofs.Tests.{drawable-parts, back}
+use Rattle.plane.proofs.Steps.{drawable-parts, back}
 use Rattle.plane.proofs.meeting.parts.Needs as need
 
 pub side-requires : need.side-requires

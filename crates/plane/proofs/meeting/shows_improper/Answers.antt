@@ -2,7 +2,7 @@ use mathlib.Core.Path.{sym, ap, ap₂, _∙_}
 use mathlib.Core.Bool.{_&&_}
 use Rattle.plane.specs.Points.{orientation}
 use Rattle.plane.specs.Meeting.{opposite}
-use Rattle.plane.proofs.Tests.{improper-inside, improper-inside-other, improper-crossing}
+use Rattle.plane.proofs.Steps.{improper-inside, improper-inside-other, improper-crossing}
 use Rattle.plane.proofs.meeting.shows_improper.Needs as need
 
 pub returns-then-has-inside : need.returns-then-has-inside

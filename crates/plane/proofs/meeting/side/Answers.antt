@@ -1,5 +1,5 @@
 use borrow.Author.Needs.{needs}
-use Rattle.plane.proofs.Tests.{drawable-parts, back}
+use Rattle.plane.proofs.Steps.{drawable-parts, back}
 use Rattle.plane.proofs.meeting.side.Needs as need
 
 pub returns : need.returns

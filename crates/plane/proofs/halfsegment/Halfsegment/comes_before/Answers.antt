@@ -1,6 +1,6 @@
 use mathlib.Core.Path.{sym, _∙_}
 use Rattle.plane.specs.Rows.{fit, comes-before}
-use Rattle.plane.proofs.Tests.{and-both, apart-points, one-point}
+use Rattle.plane.proofs.Steps.{and-both, apart-points, one-point}
 use Rattle.plane.proofs.halfsegment.Halfsegment.comes_before.Needs as need
 
 pub returns-then-not-coincides : need.returns-then-not-coincides

@@ -1,6 +1,6 @@
 use borrow.Author.Needs.{needs}
 use Rattle.plane.proofs.Bounds.{fit-ends}
-use Rattle.plane.proofs.Tests.{turned, level}
+use Rattle.plane.proofs.Steps.{turned, level}
 use Rattle.plane.proofs.halfsegment.Halfsegment.is_swept_first.Needs as need
 
 pub returns-then-turn-ne0 : need.returns-then-turn-ne0
