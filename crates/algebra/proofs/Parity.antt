@@ -2,10 +2,11 @@
 use mathlib.Core.Path.{_≡_, refl, sym, ap, ap₂, _∙_}
 use mathlib.Core.List.{List, [], _∷_}
 use mathlib.Core.Bool.{Bool, true, false, not, _&&_, cond}
-use Prim.Native.Nat.{ℕ, zero, suc, _≤_}
+use Prim.Native.Nat.{ℕ, zero, suc, _+_, _<_, _≤_}
+use native.Mathlib.Numerals.{add-one}
 use native.Mathlib.Omega.{arith}
 use Rattle.std.specs.Orderings.{Decides}
-use lib.ListN.{length}
+use lib.ListN.{length, getD, take}
 use Rattle.algebra.specs.Members.{_∈_, here, there}
 use Rattle.algebra.specs.Parity.{differ, odd, times, odd-times, Odd-counts, Even-counts}
 use Rattle.algebra.proofs.Members.{apart}
@@ -45,6 +46,28 @@ odd-counts A f (a ∷ zs) = by (f a) (odd-counts A f zs)
     by : (t : Bool) → odd-times f zs ≡ odd (times f zs) → differ t (odd-times f zs) ≡ odd (cond t (suc (times f zs)) (times f zs))
     by true h = ap not h ∙ sym (odd-next (times f zs))
     by false h = h
+
+-- one more thing counted
+times-suc : {A : Type 0} (f : A → Bool) (zs : List A) (i : ℕ) (d : A) → i < length zs → times f (take (suc i) zs) ≡ cond (f (getD zs i d)) (suc (times f (take i zs))) (times f (take i zs))
+times-suc f [] i d l = absurd (omega arith)
+times-suc f (a ∷ zs) zero d l = refl
+times-suc f (a ∷ zs) (suc i) d l = by (f a) (f (getD zs i d)) (times f (take (suc i) zs)) (times f (take i zs)) (times-suc f zs i d (omega arith))
+  where
+    by : (s t : Bool) (m n : ℕ) → m ≡ cond t (suc n) n → cond s (suc m) m ≡ cond t (suc (cond s (suc n) n)) (cond s (suc n) n)
+    by true true m n e = ap suc e
+    by true false m n e = ap suc e
+    by false true m n e = e
+    by false false m n e = e
+
+pub times-more : {A : Type 0} (f : A → Bool) (zs : List A) (i : ℕ) (d : A) → i < length zs → times f (take (i + 1) zs) ≡ cond (f (getD zs i d)) (suc (times f (take i zs))) (times f (take i zs))
+times-more f zs i d l = rw (add-one i) (times-suc f zs i d l)
+
+pub odd-more : (n : ℕ) → not (odd n) ≡ odd (suc n)
+odd-more n = sym (odd-next n)
+
+pub times-none : {A : Type 0} (f : A → Bool) (zs : List A) → ((a : A) → a ∈ zs → f a ≡ false) → times f zs ≡ 0
+times-none f [] h = refl
+times-none f (a ∷ zs) h = ap (λ t. cond t (suc (times f zs)) (times f zs)) (h a here) ∙ times-none f zs (λ b m. h b (there m))
 
 -- taking out all copies of one thing
 module _ (A : Type 0) (same : A → A → Bool) (tells : (a b : A) → Decides (same a b) (a ≡ b)) where

@@ -7,6 +7,7 @@ pub mod Meetings
 pub mod Pairs
 pub mod Points
 pub mod RowOrder
+pub mod Segments
 pub mod Sharing
 pub mod Standing
 pub mod Steps

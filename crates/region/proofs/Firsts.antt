@@ -1,13 +1,13 @@
--- The first place at which a test holds: from a search, and what it says. The main lemmas are `first-none`, `first-at`, `none-first` and `some-first`.
+-- The first place at which a test holds: from a search (`first-none`, `first-at`), and what it says (`sought`).
 use mathlib.Core.Path.{_≡_, refl, sym, ap, subst, _∙_}
 use mathlib.Core.Bool.{Bool, true, false, cond}
 use mathlib.Core.Logic.{_⊎_, inl, inr}
-use Prim.Native.Nat.{ℕ, zero, suc, _+_, _<_, _≤_}
+use Prim.Native.Nat.{ℕ, zero, suc, _<_}
 use native.Mathlib.Omega.{arith}
 use Rattle.std.specs.declared.option.Option.{Option}
 use Rattle.std.specs.declared.option.Option.the-variants.{Some, None}
 use Rattle.std.proofs.shelf.Tests.{cases-order}
-use Rattle.algebra.proofs.Members.{Case, holds, fails, case, apart}
+use Rattle.algebra.proofs.Members.{Case, holds, fails, case}
 use Rattle.region.specs.Check.{first}
 
 module _ (test : ℕ → Bool) where
@@ -27,13 +27,14 @@ module _ (test : ℕ → Bool) where
       go (inr (inl m)) r = ap (next n) (r m)
       go (inr (inr m)) r = absurd (omega arith)
 
-  pub data Sought (n : ℕ) : Option ℕ → Type 0 where
-    nowhere : ((k : ℕ) → k < n → test k ≡ false) → Sought n None
-    somewhere : (i : ℕ) → i < n → test i ≡ true → ((k : ℕ) → k < i → test k ≡ false) → Sought n (Some i)
+  -- the test holds nowhere below n, or first at a place
+  pub data Sought (n : ℕ) : Type 0 where
+    nowhere : first test n ≡ None → ((k : ℕ) → k < n → test k ≡ false) → Sought n
+    somewhere : (i : ℕ) → first test n ≡ Some i → i < n → test i ≡ true → ((k : ℕ) → k < i → test k ≡ false) → Sought n
 
-  pub sought : (n : ℕ) → Sought n (first test n)
-  sought zero = nowhere (λ k l. absurd (omega arith))
-  sought (suc n) = go (first test n) (sought n) (case (test n))
+  pub sought : (n : ℕ) → Sought n
+  sought zero = nowhere refl (λ k l. absurd (omega arith))
+  sought (suc n) = go (sought n) (case (test n))
     where
       last : ((k : ℕ) → k < n → test k ≡ false) → test n ≡ false → (k : ℕ) → k < suc n → test k ≡ false
       last h e k l = by (cases-order k n)
@@ -43,7 +44,7 @@ module _ (test : ℕ → Bool) where
           by (inr (inl m)) = h k m
           by (inr (inr m)) = absurd (omega arith)
 
-      go : (o : Option ℕ) → Sought n o → Case (test n) → Sought (suc n) (next n o)
-      go (Some i) (somewhere .i l e h) t = somewhere i (omega arith) e h
-      go None (nowhere h) (holds t) = subst (λ u. Sought (suc n) (cond u (Some n) None)) (sym t) (somewhere n (omega arith) t h)
-      go None (nowhere h) (fails t) = subst (λ u. Sought (suc n) (cond u (Some n) None)) (sym t) (nowhere (last h t))
+      go : Sought n → Case (test n) → Sought (suc n)
+      go (somewhere i q l e h) t = somewhere i (ap (next n) q) (omega arith) e h
+      go (nowhere q h) (holds t) = somewhere n (ap (next n) q ∙ ap (λ u. cond u (Some n) None) t) (omega arith) t h
+      go (nowhere q h) (fails t) = nowhere (ap (next n) q ∙ ap (λ u. cond u (Some n) None) t) (last h t)

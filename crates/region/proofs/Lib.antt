@@ -1,1 +1,4 @@
 pub mod Firsts
+pub mod Meetings
+pub mod Passes
+pub mod Verdicts

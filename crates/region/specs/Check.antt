@@ -1,15 +1,14 @@
 -- What check answers: the first thing that is wrong with a list of rows, pass by pass.
-use mathlib.Core.Bool.{Bool, true, false, not, cond, _&&_, _||_}
+use mathlib.Core.Bool.{Bool, true, false, not, cond, _&&_}
 use mathlib.Core.List.{List, [], _∷_}
-use Prim.Native.Nat.{ℕ, zero, suc, _-_}
-use lib.Dec.{ltb}
+use Prim.Native.Nat.{ℕ, zero, suc}
 use lib.IntN.{pos}
 use lib.ListN.{length, getD}
-use Rattle.std.specs.Options.{isSome}
 use Rattle.std.specs.declared.option.Option.{Option}
 use Rattle.std.specs.declared.option.Option.the-variants.{Some, None}
 use Rattle.std.specs.declared.result.Result.{Result}
 use Rattle.std.specs.declared.result.Result.the-variants.{Ok, Err}
+use Rattle.algebra.specs.Members.{any}
 use Rattle.algebra.specs.Parity.{odd}
 use Rattle.plane.specs.declared.point.Point.{Point}
 use Rattle.plane.specs.declared.halfsegment.Halfsegment.{Halfsegment}
@@ -55,23 +54,21 @@ abbrev pub faulty : Result Unit RowFault → Bool
 faulty (Ok _) = false
 faulty (Err f) = true
 
+-- the row does not come after the one before it
 abbrev pub misplaced : List Halfsegment → ℕ → Bool
-misplaced rows i = ltb 0 i && not (comes-before (row rows (i - 1)) (row rows i))
+misplaced rows zero = false
+misplaced rows (suc i) = not (comes-before (row rows i) (row rows (suc i)))
 
+-- the row is one of the list's
 abbrev pub stands : List Halfsegment → Halfsegment → Bool
-stands [] h = false
-stands (g ∷ rows) h = same-row g h || stands rows h
+stands rows h = any (λ g. same-row g h) rows
 
 abbrev pub twinless : List Halfsegment → ℕ → Bool
 twinless rows i = not (stands rows (twin (row rows i)))
 
--- the segment of some row of the list meets that of h improperly
-abbrev pub crowds : List Halfsegment → Halfsegment → Bool
-crowds [] h = false
-crowds (g ∷ rows) h = improper (segment-of h) (segment-of g) || crowds rows h
-
+-- its segment meets that of some row of the list improperly
 abbrev pub crowded : List Halfsegment → ℕ → Bool
-crowded rows i = crowds rows (row rows i)
+crowded rows i = any (λ g. improper (segment-of (row rows i)) (segment-of g)) rows
 
 abbrev pub uneven : List Halfsegment → ℕ → Bool
 uneven rows i = odd (degree rows (row rows i .dominating))

@@ -3,7 +3,7 @@ use mathlib.Core.Path.{_≡_}
 use mathlib.Core.Bool.{Bool, true, false}
 use mathlib.Core.List.{List}
 use mathlib.Core.Logic.{_↔_}
-use Prim.Native.Nat.{ℕ, _-_, _<_}
+use Prim.Native.Nat.{ℕ, zero, suc, _<_}
 use lib.ListN.{length}
 use Rattle.std.specs.declared.result.Result.{Result}
 use Rattle.std.specs.declared.result.Result.the-variants.{Ok, Err}
@@ -34,7 +34,8 @@ Misfit rows i = fit (row rows i) ≡ false
 
 -- it does not come after the row before it
 abbrev pub Misplaced : List Halfsegment → ℕ → Type 0
-Misplaced rows i = (0 < i) × (comes-before (row rows (i - 1)) (row rows i) ≡ false)
+Misplaced rows zero = ⊥
+Misplaced rows (suc i) = comes-before (row rows i) (row rows (suc i)) ≡ false
 
 -- its twin is not in the list
 abbrev pub Twinless : List Halfsegment → ℕ → Type 0
