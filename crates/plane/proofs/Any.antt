@@ -12,10 +12,10 @@ use Rattle.algebra.specs.Polynomial.{var, neg, _⊗_, nought}
 use Rattle.algebra.proofs.Ring.{ring}
 use Rattle.algebra.proofs.Signs.{lin, split, mul-pos, mul-le, mul-lt}
 use Rattle.plane.specs.declared.point.Point.{Point}
-use Rattle.plane.specs.Points.{orientation}
+use Rattle.plane.specs.Points.{orientation, scaled}
 use Rattle.plane.specs.Meeting.{opposite}
 use Rattle.plane.proofs.Points.{Before, points-equal, xs-of, ys-of, Lex, first, last, one, lex}
-use Rattle.plane.proofs.Pairs.{Between, scaled, Hits, Shared, Is-end, Clean, straddles, clear-of, ranges-meet, touches, crosses, turnE, turnX, xE, yE}
+use Rattle.plane.proofs.Pairs.{Between, Hits, Shared, Is-end, Clean, straddles, clear-of, ranges-meet, touches, crosses, turnE, turnX, xE, yE}
 use Rattle.plane.proofs.Sharing.{leg-back, segment-back, hits-start, hits-whole, upright}
 use Rattle.plane.proofs.Tests.{ranges-sorted, touch-test, touch-from, cross-test, cross-to}
 

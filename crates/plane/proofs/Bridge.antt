@@ -12,11 +12,12 @@ use Rattle.algebra.specs.Members.{_∈_}
 use Rattle.algebra.proofs.Ring.{ring, ring-from, mul-zero, mul-one}
 use Rattle.algebra.proofs.Signs.{lin, mul-pos, mul-nonneg, mul-nonpos, cancel, cancel-zero, cancel-nonneg, cancel-nonpos}
 use Rattle.plane.specs.declared.point.Point.{Point}
+use Rattle.plane.specs.Points.{scaled}
 use Rattle.plane.specs.declared.segment.Segment.{Segment}
 use Rattle.plane.specs.Meeting.{crossing}
 use Rattle.plane.specs.Spots.{Spot, whole, right-of, above-of, Same-place, Around, On, On-segment, Touches, Crosses}
 use Rattle.plane.proofs.Points.{points-equal, xs-of, ys-of}
-use Rattle.plane.proofs.Pairs.{Between, scaled, Hits, Shared, Is-end, Clean, touches, crosses}
+use Rattle.plane.proofs.Pairs.{Between, Hits, Shared, Is-end, Clean, touches, crosses}
 use Rattle.plane.proofs.Sharing.{hits-start, hits-back}
 use Rattle.plane.proofs.Any.{any-touch-test, any-cross-test, crosses-scaled}
 

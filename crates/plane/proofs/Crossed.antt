@@ -9,9 +9,9 @@ use Rattle.algebra.specs.Polynomial.{var, _⊗_, by, minus-unit}
 use Rattle.algebra.proofs.Ring.{ring-from}
 use Rattle.algebra.proofs.Signs.{lin, split, cancel, cancel-le, mul-le}
 use Rattle.plane.specs.declared.point.Point.{Point}
-use Rattle.plane.specs.Points.{orientation}
+use Rattle.plane.specs.Points.{orientation, scaled}
 use Rattle.plane.proofs.Points.{Before, rightward, points-equal, xs-of, ys-of}
-use Rattle.plane.proofs.Pairs.{Between, scaled, Shared, Is-end, Shared-end, Crossed, Clean}
+use Rattle.plane.proofs.Pairs.{Between, Shared, Is-end, Shared-end, Crossed, Clean}
 use Rattle.plane.proofs.Sharing.{fall-leg, fall-segment, upright, end-by-x, end-by-y}
 use Rattle.plane.proofs.Weights.{Weighed, weights, heights, weight-on-u, weight-on-v, edge, opposed, Passing, passing, in-order}
 

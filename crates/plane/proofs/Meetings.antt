@@ -9,11 +9,11 @@ use Rattle.std.specs.Orderings.{Decides}
 use Rattle.algebra.proofs.Ring.{mul-one}
 use Rattle.plane.specs.declared.point.Point.{Point}
 use Rattle.plane.specs.declared.segment.Segment.{Segment}
-use Rattle.plane.specs.Points.{orientation}
+use Rattle.plane.specs.Points.{orientation, scaled}
 use Rattle.plane.specs.Spots.{whole, Same-place, On-segment, End-of, Crosses, Meet-improperly}
 use Rattle.plane.specs.Meeting.{crossing, inside, Signs-tell}
 use Rattle.plane.proofs.Points.{Before, before-of, before-trans, before-apart, points-equal, Lex, first, last, one, lex}
-use Rattle.plane.proofs.Pairs.{scaled, Hits, Shared, Is-end}
+use Rattle.plane.proofs.Pairs.{Hits, Shared, Is-end}
 use Rattle.plane.proofs.Weights.{Passing, falling, rising, flat, end-level}
 use Rattle.plane.proofs.Crossed.{signs}
 use Rattle.plane.proofs.Tests.{through-in, through-in′}

@@ -8,15 +8,12 @@ use lib.IntN.{ℤ, pos, _*ℤ_}
 use lib.Signed.{ltZ, leZ, _<ℤ_, _≤ℤ_}
 use Rattle.algebra.specs.Polynomial.{Ex, var, _⊖_, _⊗_}
 use Rattle.plane.specs.declared.point.Point.{Point}
-use Rattle.plane.specs.Points.{orientation}
+use Rattle.plane.specs.Points.{orientation, scaled}
 use Rattle.plane.specs.Meeting.{opposite}
 
 -- from u to v or from v to u, w is on the way
 abbrev pub Between : ℤ → ℤ → ℤ → Type 0
 Between u v w = ((u ≤ℤ w) × (w ≤ℤ v)) ⊎ ((v ≤ℤ w) × (w ≤ℤ u))
-
-abbrev pub scaled : ℤ → Point → Point
-scaled k a = record { x = k *ℤ a .x; y = k *ℤ a .y }
 
 -- the point s / k lies on the straight way from a to b
 pub record Hits (k : ℤ) (s a b : Point) : Type 0 where

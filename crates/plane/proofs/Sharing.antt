@@ -11,8 +11,8 @@ use Rattle.algebra.specs.Polynomial.{Ex, con, var, neg, _⊕_, _⊖_, _⊗_, by
 use Rattle.algebra.proofs.Ring.{ring, ring-from}
 use Rattle.algebra.proofs.Signs.{lin, split, cancel-zero, cancel-le, mean-le, mean-ge}
 use Rattle.plane.specs.declared.point.Point.{Point}
-use Rattle.plane.specs.Points.{orientation}
-use Rattle.plane.proofs.Pairs.{Between, scaled, Hits, Shared, Shared-end, turnE, turnX, xE, yE, coords, A′, B′, P′, Q′}
+use Rattle.plane.specs.Points.{orientation, scaled}
+use Rattle.plane.proofs.Pairs.{Between, Hits, Shared, Shared-end, turnE, turnX, xE, yE, coords, A′, B′, P′, Q′}
 use Rattle.plane.proofs.Cuts.{Quad, Cut}
 
 abbrev pub way : ℕ → ℕ → Ex

@@ -13,10 +13,10 @@ use Rattle.algebra.proofs.Ring.{ring-from}
 use Rattle.algebra.proofs.Signs.{lin, mul-lt, cancel, cancel-lt, cancel-nonzero}
 use Rattle.plane.specs.declared.point.Point.{Point}
 use Rattle.plane.specs.declared.segment.Segment.{Segment}
-use Rattle.plane.specs.Points.{eqZ, precedes, orientation}
+use Rattle.plane.specs.Points.{eqZ, precedes, orientation, scaled}
 use Rattle.plane.specs.Meeting.{inside}
 use Rattle.plane.proofs.Points.{Before, before-of, of-before, rightward, Lex, first, last, one, lex}
-use Rattle.plane.proofs.Pairs.{Between, scaled, Hits, turnX}
+use Rattle.plane.proofs.Pairs.{Between, Hits, turnX}
 use Rattle.plane.proofs.Sharing.{hits-whole, hits-back, along-by}
 
 -- the order of points in another scale

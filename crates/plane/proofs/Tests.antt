@@ -12,11 +12,11 @@ use Rattle.algebra.specs.Polynomial.{Ex, var, neg, _⊕_, _⊖_, _⊗_, by, nou
 use Rattle.algebra.proofs.Ring.{ring-from}
 use Rattle.algebra.proofs.Signs.{lin, split, Tri, below, zeroed, above, tri, mul-pos, cancel-nonzero, cancel, cancel-le, mean-zero, mean-zero′}
 use Rattle.plane.specs.declared.point.Point.{Point}
-use Rattle.plane.specs.Points.{orientation}
+use Rattle.plane.specs.Points.{orientation, scaled}
 use Rattle.plane.specs.Spots.{Around}
 use Rattle.plane.specs.Meeting.{opposite}
 use Rattle.plane.proofs.Points.{Before, points-equal}
-use Rattle.plane.proofs.Pairs.{Between, scaled, Shared, Is-end, Clean, straddles, ranges-meet, touches, crosses}
+use Rattle.plane.proofs.Pairs.{Between, Shared, Is-end, Clean, straddles, ranges-meet, touches, crosses}
 use Rattle.plane.proofs.Cuts.{Cut}
 use Rattle.plane.proofs.Sharing.{fall-leg, fall-segment, shared-cut, shared-rise, end-by-x, end-by-y}
 use Rattle.plane.proofs.Weights.{weights, heights, end-level, not-zero-above, not-zero-below, Passing, falling, rising, flat}

@@ -9,9 +9,9 @@ use Rattle.algebra.specs.Polynomial.{Ex, con, var, _⊕_, _⊖_, _⊗_, by, nou
 use Rattle.algebra.proofs.Ring.{ring, ring-from, mul-zero}
 use Rattle.algebra.proofs.Signs.{lin, split, Tri, below, zeroed, above, tri, mul-pos, mul-neg, cancel-pos, cancel-neg, cancel-zero, cancel}
 use Rattle.plane.specs.declared.point.Point.{Point}
-use Rattle.plane.specs.Points.{orientation}
+use Rattle.plane.specs.Points.{orientation, scaled}
 use Rattle.plane.proofs.Points.{points-equal, xs-of, ys-of}
-use Rattle.plane.proofs.Pairs.{Between, scaled, Hits, turnE, turnX, xE, yE}
+use Rattle.plane.proofs.Pairs.{Between, Hits, turnE, turnX, xE, yE}
 
 -- s / k is u and v with weights m and n, coordinate by coordinate
 pub record Weighed (k sx sy ux uy vx vy : ℤ) : Type 0 where

@@ -24,3 +24,7 @@ precedes p q = ltZ (p .x) (q .x) || (eqZ (p .x) (q .x) && ltZ (p .y) (q .y))
 -- twice the signed area of the triangle c, a, b: positive where b lies anticlockwise of a, seen from c
 abbrev pub orientation : Point → Point → Point → ℤ
 orientation a b c = (a .x -ℤ c .x) *ℤ (b .y -ℤ c .y) -ℤ (b .x -ℤ c .x) *ℤ (a .y -ℤ c .y)
+
+-- the point k times as far from the origin
+abbrev pub scaled : ℤ → Point → Point
+scaled k p = record { x = k *ℤ p .x; y = k *ℤ p .y }
