@@ -1,0 +1,3 @@
+pub mod Naturals
+pub mod Fields
+pub mod Filling

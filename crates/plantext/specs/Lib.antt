@@ -1,0 +1,4 @@
+pub mod Text
+pub mod Cuts
+pub mod Lines
+pub mod Plans
