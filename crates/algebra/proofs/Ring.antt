@@ -164,4 +164,3 @@ adding-is ρ (h ∷ hs) k b =
 
 pub ring-from : Equations-carry
 ring-from ρ hs k a b e = ring ρ a (adding b hs) e ∙ adding-is ρ hs k b
-

@@ -20,7 +20,12 @@ const BLANK: Halfsegment = Halfsegment {
 };
 
 /// Reads the rows of one plan and tells what check says of them, under the plan's name.
-fn tell(rt: &impl Print, name: &str, rows: &str, memory: &mut [Halfsegment]) -> Result<(), AnyError> {
+fn tell(
+    rt: &impl Print,
+    name: &str,
+    rows: &str,
+    memory: &mut [Halfsegment],
+) -> Result<(), AnyError> {
     let mut store = RecordStore::new(memory);
     if read_rows(rows.as_bytes(), &mut store).is_err() {
         return Err("a case has a line that is not a row".into());

@@ -15,11 +15,17 @@ use storage::Source;
 
 const ORIGIN: Point = Point { x: 0, y: 0 };
 
-const BLANK: Halfsegment = Halfsegment { dominating: ORIGIN, far: ORIGIN };
+const BLANK: Halfsegment = Halfsegment {
+    dominating: ORIGIN,
+    far: ORIGIN,
+};
 
 fn explain(rt: &impl Eprint, fault: LineFault) -> Result<(), AnyError> {
     match fault {
-        LineFault::NotARow(line) => eprintln!(rt, "line {line}: not four whole numbers of 32 bits with single spaces between them")?,
+        LineFault::NotARow(line) => eprintln!(
+            rt,
+            "line {line}: not four whole numbers of 32 bits with single spaces between them"
+        )?,
         LineFault::NoRoom(line) => eprintln!(rt, "line {line}: more than 4000 rows")?,
     }
     Err("the input is not a plan".into())

@@ -60,7 +60,9 @@ impl Halfsegment {
     {
         let across = difference(self.far.x, self.dominating.x);
         let up = difference(self.far.y, self.dominating.y);
-        across.wrapping_mul(across).wrapping_add(up.wrapping_mul(up))
+        across
+            .wrapping_mul(across)
+            .wrapping_add(up.wrapping_mul(up))
     }
 
     /// Of two alike at one dominating point: by the turn about it, then the nearer far end first.

@@ -123,14 +123,16 @@ module _ (room : ℕ) where
     -- one row more
     pub one-more : (row : Halfsegment) (ys : List Halfsegment) → row-of-line line ≡ Some row → Added room rows ys row → (fill-answer room (length rows) done (lines-of rest) ≡ fill-answer room (length ys) (suc done) ls) × (fill-rows room rows (lines-of rest) ≡ fill-rows room ys ls)
     one-more row ys e a =
-        let len : suc (length rows) ≡ length ys = sym (ap length (a .stands) ∙ simp length-append (omega arith)) in
-        (good-answer row e ∙ ap (λ t. cond t (fill-answer room (suc (length rows)) (suc done) ls) (Err (NoRoom (suc done)))) (a .had-room) ∙ ap (λ k. fill-answer room k (suc done) ls) len,
-         good-rows row e ∙ ap (λ t. cond t (fill-rows room (rows ++ row ∷ []) ls) rows) (a .had-room) ∙ ap (λ l. fill-rows room l ls) (sym (a .stands)))
+        let len : suc (length rows) ≡ length ys = sym (ap length (a .stands) ∙ simp length-append (omega arith)) in (
+          good-answer row e ∙ ap (λ t. cond t (fill-answer room (suc (length rows)) (suc done) ls) (Err (NoRoom (suc done)))) (a .had-room) ∙ ap (λ k. fill-answer room k (suc done) ls) len,
+          good-rows row e ∙ ap (λ t. cond t (fill-rows room (rows ++ row ∷ []) ls) rows) (a .had-room) ∙ ap (λ l. fill-rows room l ls) (sym (a .stands)),
+        )
 
     pub no-more : (row : Halfsegment) (ys : List Halfsegment) → row-of-line line ≡ Some row → Full room rows ys → (fill-answer room (length rows) done (lines-of rest) ≡ Err (NoRoom (suc done))) × (fill-rows room rows (lines-of rest) ≡ ys)
-    no-more row ys e a =
-        (good-answer row e ∙ ap (λ t. cond t (fill-answer room (suc (length rows)) (suc done) ls) (Err (NoRoom (suc done)))) (a .no-room),
-         good-rows row e ∙ ap (λ t. cond t (fill-rows room (rows ++ row ∷ []) ls) rows) (a .no-room) ∙ sym (a .kept))
+    no-more row ys e a = (
+      good-answer row e ∙ ap (λ t. cond t (fill-answer room (suc (length rows)) (suc done) ls) (Err (NoRoom (suc done)))) (a .no-room),
+      good-rows row e ∙ ap (λ t. cond t (fill-rows room (rows ++ row ∷ []) ls) rows) (a .no-room) ∙ sym (a .kept),
+    )
 
 -- the ways out of a turn of the loop, and into the next
 record Line (rest line : List ℕ) : Type 0 where

@@ -26,7 +26,9 @@ pub fn read_rows<S: Store>(text: &[u8], store: &mut S) -> Result<(), LineFault>
     let mut done: usize = 0;
     while !rest.is_empty() {
         let (line, more) = split_first(rest, b'\n');
-        let Some(row) = parse_row(line) else { return Err(LineFault::NotARow(done + 1)) };
+        let Some(row) = parse_row(line) else {
+            return Err(LineFault::NotARow(done + 1))
+        };
         let end = store.count();
         if store.insert(end, row).is_err() {
             return Err(LineFault::NoRoom(done + 1));

@@ -12,7 +12,6 @@ pub struct VerdictLine {
     pub answer: Result<(), CheckRefusal>,
 }
 
-
 pub impl fmt::Display for VerdictLine as ToldVerdict {
     ghost shown = { λ v. Some (told (v .count) (v .answer)) };
 
@@ -23,7 +22,10 @@ pub impl fmt::Display for VerdictLine as ToldVerdict {
             Err(refusal) => {
                 let number = refusal.number();
                 match refusal {
-                    CheckRefusal::Unclosed(Point { x, y }) => write!(f, "refused {number} at {x} {y}"),
+                    CheckRefusal::Unclosed(Point { x, y }) => write!(
+                        f,
+                        "refused {number} at {x} {y}"
+                    ),
                     CheckRefusal::BadRow(row, _)
                     | CheckRefusal::Unsorted(row)
                     | CheckRefusal::NoTwin(row)

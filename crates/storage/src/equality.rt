@@ -25,5 +25,8 @@ pub fn same<S: Source, T: Source>(a: &S, b: &T) -> bool
 fn equal(a: Halfsegment, b: Halfsegment) -> bool
     ensures { λ r. ⌜ Decides r (a ≡ b) ⌝ }
 {
-    a.dominating.x == b.dominating.x && a.dominating.y == b.dominating.y && a.far.x == b.far.x && a.far.y == b.far.y
+    a.dominating.x == b.dominating.x
+        && a.dominating.y == b.dominating.y
+        && a.far.x == b.far.x
+        && a.far.y == b.far.y
 }
