@@ -1,5 +1,6 @@
 pub mod Ring
 pub mod Signs
 pub mod Members
+pub mod Counts
 pub mod Parity
 pub mod Worked

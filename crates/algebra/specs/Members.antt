@@ -11,3 +11,8 @@ pub data _∈_ {A : Type 0} (a : A) : List A → Type 0 where
 abbrev pub any : {A : Type 0} → (A → Bool) → List A → Bool
 any test [] = false
 any test (a ∷ zs) = test a || any test zs
+
+-- nothing stands in the list twice
+abbrev pub Once : {A : Type 0} → List A → Type 0
+Once [] = Unit {0}
+Once (a ∷ zs) = ¬ (a ∈ zs) × Once zs

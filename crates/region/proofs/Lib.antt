@@ -2,3 +2,4 @@ pub mod Firsts
 pub mod Meetings
 pub mod Passes
 pub mod Verdicts
+pub mod Linings

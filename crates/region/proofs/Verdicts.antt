@@ -297,19 +297,25 @@ module _ (rows : List Halfsegment) where
       go (passed q f) = subst (Verdict rows) (sym q) f
       go (failed e q v) = subst (Verdict rows) (sym q) v
 
-  -- a refused list is not both well formed and closed
-  refuted : (e : CheckRefusal) → Verdict rows (Err e) → Well-formed rows → Closed rows → ⊥
-  refuted (BadRow i f) v w c = in-fits rows (w .fits) i (v .0 .within) (v .0 .holds)
-  refuted (Unsorted i) v w c = go i (v .1 .within) (v .1 .holds)
+  -- well-formed rows are refused as unclosed or not at all
+  pub only-unclosed : (e : CheckRefusal) → Verdict rows (Err e) → Well-formed rows → (v : Point) × (e ≡ Unclosed v)
+  only-unclosed (BadRow i f) v w = absurd (in-fits rows (w .fits) i (v .0 .within) (v .0 .holds))
+  only-unclosed (Unsorted i) v w = absurd (go i (v .1 .within) (v .1 .holds))
     where
       go : (i : ℕ) → i < n → Misplaced rows i → ⊥
       go zero l m = m
       go (suc i) l m = apart (rising-at rows (w .rising) i (suc i) (omega arith) l) m
-  refuted (NoTwin i) v w c = v .2 .holds (w .paired (row rows i) (member-at rows i no-row (v .2 .within)))
-  refuted (Improper i) v w c =
+  only-unclosed (NoTwin i) v w = absurd (v .2 .holds (w .paired (row rows i) (member-at rows i no-row (v .2 .within))))
+  only-unclosed (Improper i) v w =
       let h = v .3 .holds in
-      w .proper (row rows i) (h .0) (member-at rows i no-row (v .3 .within)) (h .1) (h .2)
-  refuted (Unclosed p) v w c = apart (v .1 .uneven) (c p)
+      absurd (w .proper (row rows i) (h .0) (member-at rows i no-row (v .3 .within)) (h .1) (h .2))
+  only-unclosed (Unclosed p) v w = (p, refl)
+
+  -- and closed ones not at all
+  refuted : (e : CheckRefusal) → Verdict rows (Err e) → Well-formed rows → Closed rows → ⊥
+  refuted e v w c =
+      let u = only-unclosed e v w in
+      apart (subst (λ x. Verdict rows (Err x)) (u .1) v .1 .uneven) (c (u .0))
 
   accepted : Well-formed rows × Closed rows → check-of rows ≡ Ok tt
   accepted wc = go checked

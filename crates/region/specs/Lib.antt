@@ -1,3 +1,4 @@
 pub mod Plans
 pub mod Check
 pub mod Verdict
+pub mod Lines

@@ -1,0 +1,15 @@
+pub mod Agree
+pub mod Crossings
+pub mod Cutting
+pub mod Decided
+pub mod Example
+pub mod General
+pub mod Leg
+pub mod Lists
+pub mod Opposites
+pub mod Parities
+pub mod Parts
+pub mod Scales
+pub mod Sides
+pub mod Stretches
+pub mod Unclosed
