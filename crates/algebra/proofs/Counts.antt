@@ -184,6 +184,7 @@ map-in {A} {B} g (z ∷ zs) b m = go (out b (g z) (map g zs) m) (map-in g zs b)
 
 pub once-map : {A B : Type 0} (g : A → B) (zs : List A) → ((a b : A) → a ∈ zs → b ∈ zs → g a ≡ g b → a ≡ b) → Once zs → Once (map g zs)
 once-map g [] one o = tt
-once-map g (z ∷ zs) one o =
-    (λ m. let r = map-in g zs (g z) m in o .0 (subst (λ x. x ∈ zs) (sym (one z (r .of) here (there (r .member)) (r .is))) (r .member)),
-     once-map g zs (λ a b i j. one a b (there i) (there j)) (o .1))
+once-map g (z ∷ zs) one o = (
+  λ m. let r = map-in g zs (g z) m in o .0 (subst (λ x. x ∈ zs) (sym (one z (r .of) here (there (r .member)) (r .is))) (r .member)),
+  once-map g zs (λ a b i j. one a b (there i) (there j)) (o .1),
+)

@@ -87,8 +87,16 @@ mod tests {
         let mut beside = [BLANK; 2];
         let mut shifted = ShiftedStore::new(ByteStore::new(&mut below), 10, -1);
         let mut plain = RecordStore::new(&mut beside);
-        check(shifted.insert(0, row(-2_147_483_648, 0, 7, 2_147_483_647)).is_ok())?;
-        check(plain.insert(0, row(-2_147_483_648, 0, 7, 2_147_483_647)).is_ok())?;
+        check(
+            shifted
+                .insert(0, row(-2_147_483_648, 0, 7, 2_147_483_647))
+                .is_ok(),
+        )?;
+        check(
+            plain
+                .insert(0, row(-2_147_483_648, 0, 7, 2_147_483_647))
+                .is_ok(),
+        )?;
         check(same(&shifted, &plain))?;
         check(plain.insert(1, row(0, 0, 1, 1)).is_ok())?;
         check(!same(&shifted, &plain))
