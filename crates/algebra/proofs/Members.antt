@@ -1,12 +1,12 @@
 -- Cases of membership and of tests, for helpers to match on; members and places (`member-at`, `place-of`); `any` by places.
-use mathlib.Core.Path.{_≡_, refl, sym, ap, subst, _∙_}
+use mathlib.Core.Path.{_≡_, refl, sym, ap, _∙_}
 use mathlib.Core.Logic.{_⊎_, inl, inr}
 use mathlib.Core.List.{List, [], _∷_}
 use mathlib.Core.Bool.{Bool, true, false, _||_}
 use Prim.Native.Nat.{ℕ, zero, suc, _<_}
 use native.Mathlib.Omega.{arith}
 use lib.ListN.{length, getD}
-use Rattle.std.proofs.shelf.Tests.{or-cases, or-parts}
+use Rattle.std.proofs.shelf.Tests.{or-cases}
 use Rattle.algebra.specs.Members.{_∈_, here, there, any}
 
 pub out : {A : Type 0} (a b : A) (bs : List A) → a ∈ (b ∷ bs) → (a ≡ b) ⊎ (a ∈ bs)

@@ -15,9 +15,6 @@ pub differ-self : (t : Bool) → differ t t ≡ false
 differ-self true = refl
 differ-self false = refl
 
-pub not-differ : (s t : Bool) → s ≡ not t → differ s t ≡ true
-not-differ s t e = grind arith
-
 pub differ-false : (s t : Bool) → differ s t ≡ false → s ≡ t
 differ-false s t e = grind arith
 

@@ -1,6 +1,6 @@
 -- Sums of products of coordinates' differences: counted round 64 bits, and exact in range. The main lemmas are `twisted` and `orientation-fits`.
-use mathlib.Core.Path.{_≡_, refl, sym, ap, _∙_}
-use mathlib.Core.Bool.{Bool, true, false, _&&_}
+use mathlib.Core.Path.{_≡_, refl, _∙_}
+use mathlib.Core.Bool.{true}
 use mathlib.Core.List.{[], _∷_}
 use Prim.Native.Nat.{ℕ, _+_, _-_, _*_, _%_, _^_, _<_}
 use native.Mathlib.Omega.{arith}
@@ -10,14 +10,14 @@ use lib.Signed.{leZ, _≤ℤ_}
 use mir.Syntax.{w32, w64}
 use mir.Val.{SFits, toZ, ofZ}
 use Rattle.std.specs.shelf.Signed.{wrapped}
-use Rattle.std.proofs.shelf.Signed.{ints, toZ-ofZ, wrapping-mul-is, wrapping-add-bits, wrapping-sub-bits, wrapped-add-left, wrapped-add-right, wrapped-sub-right, wrapped-fits}
+use Rattle.std.proofs.shelf.Signed.{toZ-ofZ, wrapping-mul-is, wrapping-add-bits, wrapping-sub-bits, wrapped-add-left, wrapped-add-right, wrapped-sub-right, wrapped-fits}
 use Rattle.std.proofs.shelf.Tests.{and-parts}
 use Rattle.algebra.specs.Polynomial.{con, var, _⊕_, _⊖_, _⊗_}
 use Rattle.algebra.proofs.Ring.{ring}
 use Rattle.algebra.proofs.Signs.{lin, mul-nonneg}
 use Rattle.plane.specs.declared.point.Point.{Point}
 use Rattle.plane.specs.declared.halfsegment.Halfsegment.{Halfsegment}
-use Rattle.plane.specs.Points.{coordinate, in-range, same-point, orientation}
+use Rattle.plane.specs.Points.{coordinate, in-range, orientation}
 use Rattle.plane.specs.Rows.{fit, reach}
 
 -- what `difference` answers, of numbers that went to bits and back

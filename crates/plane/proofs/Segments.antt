@@ -1,24 +1,23 @@
 -- The segment of a halfsegment, and improper meetings: `improper-back`, `improper-self`, `improper-apart`.
-use mathlib.Core.Path.{_≡_, refl, sym, ap, ap₂, subst, _∙_}
+use mathlib.Core.Path.{_≡_, refl, sym, ap, _∙_}
 use mathlib.Core.Logic.{_⊎_, inl, inr}
 use mathlib.Core.Bool.{Bool, true, false, not, cond, _&&_, _||_}
 use mathlib.Core.List.{[], _∷_}
 use native.Mathlib.Omega.{arith}
 use lib.IntN.{ℤ, pos, _-ℤ_, _*ℤ_}
 use lib.Signed.{_<ℤ_, _≤ℤ_}
-use Rattle.std.proofs.shelf.Tests.{and-parts, and-from, not-false}
+use Rattle.std.proofs.shelf.Tests.{and-parts, and-from}
 use Rattle.algebra.specs.Polynomial.{con, var, _⊗_}
 use Rattle.algebra.proofs.Ring.{ring}
 use Rattle.algebra.proofs.Signs.{lin, mul-le, mul-lt}
 use Rattle.algebra.proofs.Members.{Case, holds, fails, case, apart}
-use Rattle.plane.specs.declared.point.Point.{Point}
 use Rattle.plane.specs.declared.segment.Segment.{Segment}
 use Rattle.plane.specs.declared.halfsegment.Halfsegment.{Halfsegment}
-use Rattle.plane.specs.Points.{in-range, same-point, precedes, orientation}
-use Rattle.plane.specs.Spots.{Spot, Around, On-segment, Meet-improperly}
-use Rattle.plane.specs.Rows.{left, twin, joining, segment-of, fit, same-row, Long}
-use Rattle.plane.specs.Meeting.{opposite, crossing, inside, improper, ordered, drawable}
-use Rattle.plane.proofs.Points.{same-point-is, same-point-holds, before-of, rightward, precedes-self, precedes-back, precedes-comparable}
+use Rattle.plane.specs.Points.{in-range, same-point, orientation}
+use Rattle.plane.specs.Spots.{Around, Meet-improperly}
+use Rattle.plane.specs.Rows.{left, twin, segment-of, fit, same-row, Long}
+use Rattle.plane.specs.Meeting.{opposite, inside, improper, ordered, drawable}
+use Rattle.plane.proofs.Points.{same-point-is, same-point-holds, before-of, rightward, precedes-back, precedes-comparable}
 use Rattle.plane.proofs.Meetings.{signs-tell}
 
 pub same-row-is : (g h : Halfsegment) → same-row g h ≡ true → g ≡ h

@@ -1,16 +1,14 @@
 -- Steps of the tests in the code: numbers that went to bits and back, and tests that failed or held so far.
 use mathlib.Core.Path.{_≡_, refl, sym, ap, ap₂, _∙_}
-use mathlib.Core.Bool.{Bool, true, false, not, cond, _&&_, _||_}
+use mathlib.Core.Bool.{Bool, true, false, not, _&&_, _||_}
 use native.Mathlib.Omega.{arith}
-use borrow.Author.Needs.{needs}
 use lib.Dec.{eqb}
 use lib.IntN.{ℤ, pos}
-use lib.Signed.{ltZ, leZ}
+use lib.Signed.{ltZ}
 use mir.Syntax.{w64}
 use mir.Val.{SFits, toZ, ofZ}
 use Rattle.std.proofs.shelf.Signed.{ints, toZ-ofZ}
 use Rattle.std.proofs.shelf.Tests.{and-parts}
-use Rattle.plane.specs.declared.point.Point.{Point}
 use Rattle.plane.specs.declared.segment.Segment.{Segment}
 use Rattle.plane.specs.Points.{eqZ, in-range, precedes, same-point, orientation}
 use Rattle.plane.specs.declared.halfsegment.Halfsegment.{Halfsegment}

@@ -2,7 +2,7 @@
 use mathlib.Core.Path.{_≡_, refl, sym, ap, subst, _∙_}
 use mathlib.Core.Bool.{Bool, true, false, cond}
 use mathlib.Core.List.{List, [], _∷_, _++_}
-use Prim.Native.Nat.{ℕ, zero, suc, _+_, _<_, _≤_}
+use Prim.Native.Nat.{ℕ, suc, _+_, _<_, _≤_}
 use native.Mathlib.Numerals.{add-one}
 use native.Mathlib.Omega.{arith}
 use denote.Ref.{RefT}
@@ -15,11 +15,10 @@ use Rattle.std.specs.declared.result.Result.{Result}
 use Rattle.std.specs.declared.result.Result.the-variants.{Ok, Err}
 use Rattle.std.specs.Holes.{inserted}
 use Rattle.std.proofs.shelf.Lists.{take-all, drop-all, length-append}
-use Rattle.std.proofs.shelf.Tests.{cases-bool, lt-ltb, le-ltb}
 use Rattle.std.proofs.shelf.Ways.{tells}
 use Rattle.plane.specs.declared.halfsegment.Halfsegment.{Halfsegment}
 use Rattle.storage.specs.declared.interface.InsertRefusal.{InsertRefusal}
-use Rattle.storage.specs.Rows.{insert-answer, Inserted, after}
+use Rattle.storage.specs.Rows.{Inserted, after}
 use Rattle.plantext.specs.declared.plans.LineFault.{LineFault}
 use Rattle.plantext.specs.declared.plans.LineFault.the-variants.{NotARow, NoRoom}
 use Rattle.plantext.specs.Text.{onto, pieces, row-of-line}

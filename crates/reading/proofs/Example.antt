@@ -20,10 +20,10 @@ use Rattle.reading.proofs.Lists.{same-line, same-line-holds}
 use Rattle.reading.proofs.Parities.{parity-reads}
 use Rattle.reading.proofs.Unclosed.{odd-corner-has-none}
 
-new-in : (l : Segment) (ls : List Segment) → any (same-line l) ls ≡ false → ¬ (l ∈ ls)
+pub new-in : (l : Segment) (ls : List Segment) → any (same-line l) ls ≡ false → ¬ (l ∈ ls)
 new-in l ls e i = apart (any-in (same-line l) ls l i (same-line-holds l l refl)) e
 
-planar-by : (ls : List Segment) → Once ls → any (λ l. not (ordered l)) ls ≡ false → any (λ l. any (improper l) ls) ls ≡ false → Planar ls
+pub planar-by : (ls : List Segment) → Once ls → any (λ l. not (ordered l)) ls ≡ false → any (λ l. any (improper l) ls) ls ≡ false → Planar ls
 planar-by ls once low-first apart-all =
     record {
       once = once;

@@ -62,17 +62,18 @@ left-of-all ls s h = odd-none (passes-under s) ls (λ l i. left (s .x) (s .k) (l
     left : (x k a b : ℤ) (t : Bool) → (x *ℤ pos 1) <ℤ (a *ℤ k) → (leZ (k *ℤ a) x && (ltZ x (k *ℤ b) && t)) ≡ false
     left x k a b t h = left-by x (k *ℤ a) (k *ℤ b) t (omega (arith, lin, mul-one x, mul-comm a k))
 
-module _ (ls : List Segment) (o : Planar ls) (closed : Closed-lines ls) where
-  even-ends : (f : Point → Bool) → odd-times f (ends ls) ≡ false
-  even-ends f = even-counts Point (λ v w. same-point w v) tells (ends ls) (λ v. odd-counts Point (λ w. same-point w v) (ends ls) ∙ closed v) f
-    where
-      tells : (v w : Point) → Decides (same-point w v) (v ≡ w)
-      tells v w = (λ e. sym (same-point-is w v e), λ e. same-point-holds w v (sym e))
+-- on closed lines every test holds of an even number of ends
+pub even-ends : (ls : List Segment) → Closed-lines ls → (f : Point → Bool) → odd-times f (ends ls) ≡ false
+even-ends ls closed f = even-counts Point (λ v w. same-point w v) tells (ends ls) (λ v. odd-counts Point (λ w. same-point w v) (ends ls) ∙ closed v) f
+  where
+    tells : (v w : Point) → Decides (same-point w v) (v ≡ w)
+    tells v w = (λ e. sym (same-point-is w v e), λ e. same-point-holds w v (sym e))
 
+module _ (ls : List Segment) (o : Planar ls) (closed : Closed-lines ls) where
   parity-counts : (s t : Spot) (meets : Segment → Bool) → Met ls s t meets → differ (odd-times (passes-under s) ls) (odd-times (passes-under t) ls) ≡ odd-times meets ls
   parity-counts s t meets met =
       parity-sum k p q s t hk hs ht ls (lower-first ls o) (met-fair k p q s t hk hs ht ls meets met)
-      ∙ ap (differ (odd-times (crosses-at k p q) ls)) (even-ends (over-at k p q))
+      ∙ ap (differ (odd-times (crosses-at k p q) ls)) (even-ends ls closed (over-at k p q))
       ∙ no-more (odd-times (crosses-at k p q) ls)
       ∙ sym (odd-same meets (crosses-at k p q) ls (met-crosses k p q s t hk hs ht ls meets met))
     where

@@ -1,32 +1,31 @@
 -- The lines of well-formed rows: `rows-have-lines`, and what check's answer says of their readings: `check-reads`.
 use mathlib.Core.Path.{_≡_, refl, sym, ap, subst, _∙_}
 use mathlib.Core.Logic.{_⊎_, inl, inr}
-use mathlib.Core.Bool.{Bool, true, false, not, cond, _&&_}
+use mathlib.Core.Bool.{Bool, true, false, not, cond}
 use mathlib.Core.List.{List, [], _∷_, map}
-use Prim.Native.Nat.{ℕ, zero, suc, _+_}
+use Prim.Native.Nat.{ℕ, suc, _+_}
 use native.Mathlib.Omega.{arith}
 use Rattle.std.specs.shelf.Lists.{kept-by}
 use Rattle.std.specs.declared.result.Result.{Result}
 use Rattle.std.specs.declared.result.Result.the-variants.{Ok, Err}
 use Rattle.algebra.specs.Members.{_∈_, here, there, Once}
 use Rattle.algebra.specs.Parity.{odd, times}
-use Rattle.algebra.proofs.Members.{apart, Case, holds, fails, case}
-use Rattle.algebra.proofs.Counts.{same-members, times-parts, times-map, times-same, kept-in, Kept, kept-out, once-kept, in-map, Image, map-in, once-map}
+use Rattle.algebra.proofs.Members.{apart}
+use Rattle.algebra.proofs.Counts.{same-members, times-parts, times-map, kept-in, kept-out, once-kept, in-map, map-in, once-map}
 use Rattle.plane.specs.declared.point.Point.{Point}
-use Rattle.plane.specs.declared.segment.Segment.{Segment}
 use Rattle.plane.specs.declared.halfsegment.Halfsegment.{Halfsegment}
 use Rattle.plane.specs.Points.{same-point}
-use Rattle.plane.specs.Rows.{left, twin, segment-of, fit, comes-before, Long}
+use Rattle.plane.specs.Rows.{left, twin, segment-of, Long}
 use Rattle.plane.specs.Spots.{Meet-improperly}
 use Rattle.plane.specs.Meeting.{ordered}
 use Rattle.plane.proofs.RowOrder.{row-order}
 use Rattle.plane.proofs.Points.{precedes-back}
 use Rattle.plane.proofs.Segments.{fit-long, left-or-twin, segment-left, segment-ordered}
-use Rattle.reading.specs.Reading.{Planar, Reading, Has-reading, One-reading}
+use Rattle.reading.specs.Reading.{Planar, Has-reading, One-reading}
 use Rattle.reading.specs.Counting.{ends, degree-at, Closed-lines}
 use Rattle.reading.proofs.Decided.{one-or-none, closed-reads}
 use Rattle.region.specs.declared.refusals.CheckRefusal.{CheckRefusal}
-use Rattle.region.specs.declared.refusals.CheckRefusal.the-variants.{BadRow, Unsorted, NoTwin, Improper, Unclosed}
+use Rattle.region.specs.declared.refusals.CheckRefusal.the-variants.{Unclosed}
 use Rattle.region.specs.Plans.{Rising, Well-formed, Closed, degree}
 use Rattle.region.specs.Check.{check-of}
 use Rattle.region.specs.Verdict.{Verdict}

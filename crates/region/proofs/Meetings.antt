@@ -1,7 +1,7 @@
 -- The search for an improper meeting: what it passed over (`clear-more`, `clear-rest`), and that nothing else is left (`uncrowded`).
-use mathlib.Core.Path.{_≡_, refl, sym, ap, ap₂, subst, _∙_}
+use mathlib.Core.Path.{_≡_, refl, sym, ap, subst, _∙_}
 use mathlib.Core.Logic.{_⊎_, inl, inr}
-use mathlib.Core.Bool.{Bool, true, false, _&&_, _||_}
+use mathlib.Core.Bool.{Bool, true, false, _&&_}
 use mathlib.Core.List.{List, [], _∷_}
 use Prim.Native.Nat.{ℕ, zero, suc, _+_, _<_, _≤_}
 use native.Mathlib.Omega.{arith}
@@ -15,11 +15,11 @@ use Rattle.std.specs.declared.result.Result.the-variants.{Ok, Err}
 use Rattle.std.proofs.shelf.Tests.{cases-order, or-cases, and-parts}
 use Rattle.algebra.specs.Members.{_∈_, any}
 use Rattle.algebra.proofs.Signs.{lin}
-use Rattle.algebra.proofs.Members.{Case, holds, fails, case, apart, member-at, Place, place-of, any-none, any-in, any-passes}
+use Rattle.algebra.proofs.Members.{Case, holds, fails, case, apart, member-at, place-of, any-none, any-in, any-passes}
 use Rattle.plane.specs.declared.segment.Segment.{Segment}
 use Rattle.plane.specs.declared.halfsegment.Halfsegment.{Halfsegment}
 use Rattle.plane.specs.Points.{precedes, same-point}
-use Rattle.plane.specs.Rows.{left, twin, same-row, segment-of, fit, earlier, comes-before, Long}
+use Rattle.plane.specs.Rows.{left, twin, same-row, segment-of, earlier, comes-before, Long}
 use Rattle.plane.specs.Meeting.{improper, drawable}
 use Rattle.plane.proofs.Points.{before-of, rightward, same-point-is, xs-of}
 use Rattle.plane.proofs.Segments.{same-row-is, same-row-holds, fit-long, left-or-twin, segment-left, segment-twin, segment-ordered, segment-drawable, improper-back, improper-self, improper-apart}

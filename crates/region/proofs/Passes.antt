@@ -1,19 +1,17 @@
 -- The passes of check: what a loop found, as the answer of the pass.
-use mathlib.Core.Path.{_≡_, refl, sym, ap, subst, _∙_}
+use mathlib.Core.Path.{_≡_, refl, sym, ap, _∙_}
 use mathlib.Core.Bool.{Bool, true, false, not, cond, _&&_}
 use mathlib.Core.Logic.{_⊎_, inl, inr}
-use mathlib.Core.List.{List, [], _∷_}
+use mathlib.Core.List.{List}
 use Prim.Native.Nat.{ℕ, zero, suc, _+_, _-_, _<_, _≤_}
 use native.Mathlib.Omega.{arith}
-use lib.Dec.{ltb}
-use lib.ListN.{length, getD, take}
+use lib.ListN.{length, take}
 use Rattle.std.specs.declared.option.Option.{Option}
 use Rattle.std.specs.declared.option.Option.the-variants.{Some, None}
 use Rattle.std.specs.declared.result.Result.{Result}
 use Rattle.std.specs.declared.result.Result.the-variants.{Ok, Err}
 use Rattle.std.proofs.shelf.Tests.{cases-order}
-use Rattle.algebra.specs.Members.{any}
-use Rattle.algebra.specs.Parity.{odd, times}
+use Rattle.algebra.specs.Parity.{odd}
 use Rattle.algebra.proofs.Members.{Case, holds, fails, case, member-at, any-none, any-in}
 use Rattle.algebra.proofs.Parity.{times-more, odd-more}
 use Rattle.plane.specs.declared.point.Point.{Point}
@@ -24,7 +22,7 @@ use Rattle.storage.specs.Rows.{row-at}
 use Rattle.storage.proofs.Rows.{row-at-read}
 use Rattle.region.specs.declared.refusals.RowFault.{RowFault}
 use Rattle.region.specs.declared.refusals.CheckRefusal.{CheckRefusal}
-use Rattle.region.specs.declared.refusals.CheckRefusal.the-variants.{BadRow, Unclosed}
+use Rattle.region.specs.declared.refusals.CheckRefusal.the-variants.{Unclosed}
 use Rattle.region.specs.Plans.{degree}
 use Rattle.region.specs.Check.{first, no-row, row, row-fault, faulty, misplaced, stands, twinless, uneven, refused-at, placed, each-answer, corners-answer}
 use Rattle.region.specs.Verdict.{Misfit, Nowhere}

@@ -1,28 +1,27 @@
 -- What check's answer means: `verdict`, and that it accepts exactly the well-formed and closed rows (`accepts`).
 use mathlib.Core.Path.{_≡_, refl, sym, ap, subst, _∙_}
 use mathlib.Core.Logic.{_⊎_, inl, inr}
-use mathlib.Core.Bool.{Bool, true, false, not, cond, _&&_, _||_}
+use mathlib.Core.Bool.{Bool, true, false, not, cond, _&&_}
 use mathlib.Core.List.{List, [], _∷_}
-use Prim.Native.Nat.{ℕ, zero, suc, _+_, _-_, _<_, _≤_}
+use Prim.Native.Nat.{ℕ, zero, suc, _-_, _<_}
 use native.Mathlib.Omega.{arith}
-use lib.Dec.{ltb}
-use lib.ListN.{length, getD}
+use lib.ListN.{length}
 use Rattle.std.specs.declared.option.Option.{Option}
 use Rattle.std.specs.declared.option.Option.the-variants.{Some, None}
 use Rattle.std.specs.declared.result.Result.{Result}
 use Rattle.std.specs.declared.result.Result.the-variants.{Ok, Err}
-use Rattle.std.proofs.shelf.Tests.{cases-order, and-parts, or-cases, not-false}
+use Rattle.std.proofs.shelf.Tests.{cases-order, and-parts, or-cases}
 use Rattle.algebra.specs.Members.{_∈_, here, there, any}
-use Rattle.algebra.specs.Parity.{odd, times}
-use Rattle.algebra.proofs.Members.{Case, holds, fails, case, apart, out, none, member-at, Place, place-of, any-in, none-in, any-passes}
+use Rattle.algebra.specs.Parity.{odd}
+use Rattle.algebra.proofs.Members.{Case, holds, fails, case, apart, out, none, member-at, place-of, any-in, none-in, any-passes}
 use Rattle.algebra.proofs.Parity.{times-none}
 use Rattle.plane.specs.declared.point.Point.{Point}
 use Rattle.plane.specs.declared.halfsegment.Halfsegment.{Halfsegment}
 use Rattle.plane.specs.Points.{in-range, same-point, precedes}
-use Rattle.plane.specs.Rows.{fit, twin, same-row, segment-of, earlier, comes-before, Long, Row-order}
+use Rattle.plane.specs.Rows.{fit, twin, same-row, segment-of, earlier, comes-before, Long}
 use Rattle.plane.specs.Spots.{Meet-improperly}
 use Rattle.plane.specs.Meeting.{improper}
-use Rattle.plane.proofs.Points.{same-point-is, same-point-holds, precedes-self, precedes-back}
+use Rattle.plane.proofs.Points.{same-point-is, precedes-self, precedes-back}
 use Rattle.plane.proofs.Segments.{same-row-is, same-row-holds, fit-long, segment-ordered}
 use Rattle.plane.proofs.RowOrder.{row-order}
 use Rattle.plane.proofs.Meetings.{signs-tell}
@@ -32,7 +31,7 @@ use Rattle.region.specs.declared.refusals.CheckRefusal.{CheckRefusal}
 use Rattle.region.specs.declared.refusals.CheckRefusal.the-variants.{BadRow, Unsorted, NoTwin, Improper, Unclosed}
 use Rattle.region.specs.Plans.{Rising, Well-formed, Closed, degree}
 use Rattle.region.specs.Check.{first, no-row, row, row-fault, faulty, misplaced, stands, twinless, crowded, uneven, refused-at, placed, each-answer, order-answer, twins-answer, meetings-answer, corners-answer, and-then, check-of}
-use Rattle.region.specs.Verdict.{Least, Nowhere, Misfit, Misplaced, Twinless, Crowded, Least-odd, Verdict, Accepts}
+use Rattle.region.specs.Verdict.{Nowhere, Misfit, Misplaced, Twinless, Crowded, Least-odd, Verdict, Accepts}
 use Rattle.region.proofs.Firsts.{Sought, nowhere, somewhere, sought}
 use Rattle.region.proofs.Passes.{fits-at}
 use Rattle.region.proofs.Meetings.{member, rising-at}
@@ -64,9 +63,6 @@ module _ (rows : List Halfsegment) where
   misfit-none : ((k : ℕ) → k < length rows → faulty (row-fault (row rows k)) ≡ false) → Nowhere (length rows) (Misfit rows)
   misfit-none h k l e = apart (fault-is (row rows k) ∙ ap not e) (h k l)
 
-  no-misfit : Nowhere (length rows) (Misfit rows) → (k : ℕ) → k < length rows → faulty (row-fault (row rows k)) ≡ false
-  no-misfit h k l = fault-is (row rows k) ∙ ap not (fits-at rows h k l)
-
   fits-in : Nowhere (length rows) (Misfit rows) → (h : Halfsegment) → h ∈ rows → fit h ≡ true
   fits-in none h m = let p = place-of h no-row rows m in ap fit (sym (p .is)) ∙ fits-at rows none (p .at) (p .within)
 
@@ -94,10 +90,6 @@ rises (g ∷ rows) long order =
 module _ (rows : List Halfsegment) where
   rising-of : Nowhere (length rows) (Misfit rows) → ((k : ℕ) → k < length rows → misplaced rows k ≡ false) → Rising rows
   rising-of fits order = rises rows (λ h m. fit-long h (fits-in rows fits h m)) (in-order rows order)
-
-  placed-of : Rising rows → (k : ℕ) → k < length rows → misplaced rows k ≡ false
-  placed-of r zero l = refl
-  placed-of r (suc k) l = ap not (rising-at rows r k (suc k) (omega arith) l)
 
   -- twins by the test and by membership
   twin-there : (i : ℕ) → twinless rows i ≡ false → twin (row rows i) ∈ rows

@@ -1,6 +1,6 @@
 -- What check answers: the first thing that is wrong with a list of rows, pass by pass.
 use mathlib.Core.Bool.{Bool, true, false, not, cond, _&&_}
-use mathlib.Core.List.{List, [], _∷_}
+use mathlib.Core.List.{List}
 use Prim.Native.Nat.{ℕ, zero, suc}
 use lib.IntN.{pos}
 use lib.ListN.{length, getD}
@@ -10,7 +10,6 @@ use Rattle.std.specs.declared.result.Result.{Result}
 use Rattle.std.specs.declared.result.Result.the-variants.{Ok, Err}
 use Rattle.algebra.specs.Members.{any}
 use Rattle.algebra.specs.Parity.{odd}
-use Rattle.plane.specs.declared.point.Point.{Point}
 use Rattle.plane.specs.declared.halfsegment.Halfsegment.{Halfsegment}
 use Rattle.plane.specs.Points.{in-range, same-point}
 use Rattle.plane.specs.Rows.{same-row, twin, segment-of, comes-before}

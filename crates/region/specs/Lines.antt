@@ -3,7 +3,6 @@ use mathlib.Core.Path.{_≡_}
 use mathlib.Core.List.{List, map}
 use mathlib.Core.Logic.{_↔_}
 use Rattle.std.specs.shelf.Lists.{kept-by}
-use Rattle.std.specs.declared.result.Result.{Result}
 use Rattle.std.specs.declared.result.Result.the-variants.{Ok, Err}
 use Rattle.plane.specs.declared.point.Point.{Point}
 use Rattle.plane.specs.declared.segment.Segment.{Segment}

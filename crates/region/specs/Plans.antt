@@ -1,6 +1,6 @@
 -- What the rows of a plan are: well formed, and closed.
 use mathlib.Core.Path.{_≡_}
-use mathlib.Core.Bool.{Bool, true, false}
+use mathlib.Core.Bool.{true, false}
 use mathlib.Core.List.{List, [], _∷_}
 use Prim.Native.Nat.{ℕ}
 use Rattle.algebra.specs.Members.{_∈_}

@@ -1,11 +1,11 @@
 -- The steps of opening and of closing a gap: `open-more` and `close-more`.
-use mathlib.Core.Path.{_≡_, sym, _∙_}
+use mathlib.Core.Path.{_≡_}
 use mathlib.Core.List.{List}
 use Prim.Native.Nat.{ℕ, _+_, _-_, _≤_, _<_}
 use native.Mathlib.Omega.{arith}
 use borrow.Author.Needs.{needs}
 use lib.ListN.{length, getD, set}
-use Rattle.std.proofs.shelf.Lists.{same-lists, places, getD-set-same, getD-read, length-set}
+use Rattle.std.proofs.shelf.Lists.{same-lists, places, getD-set-same, getD-read}
 use Rattle.std.proofs.shelf.Tests.{cases-eq}
 use Rattle.storage.specs.Gaps.{opened, closed}
 

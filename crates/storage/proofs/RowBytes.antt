@@ -1,8 +1,8 @@
 -- Rows in bytes: what an insertion and a removal of sixteen bytes are to the rows.
-use mathlib.Core.Path.{_≡_, refl, sym, ap, _∙_}
-use mathlib.Core.List.{List, [], _∷_, _++_, map}
-use mathlib.Core.Logic.{inl, inr, ⊎-elim}
-use Prim.Native.Nat.{ℕ, _+_, _-_, _*_, _/_, _%_, _<_, _≤_, min}
+use mathlib.Core.Path.{_≡_, sym, ap, _∙_}
+use mathlib.Core.List.{List, _++_}
+use mathlib.Core.Logic.{⊎-elim}
+use Prim.Native.Nat.{ℕ, _+_, _-_, _*_, _/_, _%_, _<_, _≤_}
 use native.Mathlib.Omega.{arith}
 use borrow.Author.Needs.{needs}
 use native.Mathlib.Nat.{add-assoc, add-zero, div-div-eq-div-mul, div-add-mod}
@@ -11,13 +11,12 @@ use lib.ListN.{length, getD, take, drop}
 use mir.Syntax.{w32}
 use mir.Val.{SFits, toZ, ofZ}
 use mir.ValLaws.{ofZ-fits}
-use Rattle.std.specs.Iters.{counting}
 use Rattle.std.specs.Holes.{between, inserted, removed}
 use Rattle.std.proofs.shelf.Counted.{length-map-counting, getD-map-counting}
 use Rattle.std.proofs.shelf.Edits.{length-inserted, getD-inserted-below, getD-inserted-at, getD-inserted-above, length-removed, getD-removed-below, getD-removed-above}
-use Rattle.std.proofs.shelf.Lists.{same-lists, places, length-take-le, length-append, length-drop}
+use Rattle.std.proofs.shelf.Lists.{same-lists, places, length-take-le}
 use Rattle.std.proofs.shelf.Tests.{cases-order, cases-lt}
-use Rattle.std.proofs.shelf.Signed.{ints, toZ-ofZ}
+use Rattle.std.proofs.shelf.Signed.{toZ-ofZ}
 use Rattle.plane.specs.declared.halfsegment.Halfsegment.{Halfsegment}
 use Rattle.storage.proofs.Rows.{Fits32}
 use Rattle.storage.specs.Bytes.{word-at, row-at-byte, word-bytes, row-bytes, rows-of}

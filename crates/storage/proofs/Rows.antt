@@ -1,25 +1,19 @@
 -- For implementers of the interfaces: the clauses, from facts about the list. For callers: what an answer says of it.
-use mathlib.Core.Path.{_≡_, refl, sym, ap, _∙_}
-use mathlib.Core.Bool.{true, false, cond}
+use mathlib.Core.Path.{_≡_, refl}
 use mathlib.Core.List.{List, [], _∷_, _++_}
 use Prim.Native.Nat.{ℕ, zero, suc, _+_, _<_, _≤_}
 use native.Mathlib.Omega.{arith}
-use borrow.Author.Needs.{needs}
-use lib.Dec.{ltb}
 use native.Mathlib.Numerals.{add-one}
 use mir.Syntax.{w32}
 use mir.Val.{SFits}
 use lib.ListN.{length, getD, take, drop}
 use Rattle.std.specs.Holes.{inserted, removed}
 use Rattle.std.proofs.shelf.Tests.{lt-ltb, le-ltb}
-use Rattle.std.proofs.shelf.Ways.{tells}
-use Rattle.std.specs.declared.result.Result.{Result}
 use Rattle.std.specs.declared.result.Result.the-variants.{Ok, Err}
 use Rattle.plane.specs.declared.halfsegment.Halfsegment.{Halfsegment}
 use Rattle.storage.specs.declared.interface.NoSuchPlace.{NoSuchPlace}
-use Rattle.storage.specs.declared.interface.InsertRefusal.{InsertRefusal}
 use Rattle.storage.specs.declared.interface.InsertRefusal.the-variants.{NoPlace, NoRoom}
-use Rattle.storage.specs.Rows.{no-such-place, row-at, insert-answer, remove-answer, Inserted, Removed}
+use Rattle.storage.specs.Rows.{no-such-place, row-at, Inserted, Removed}
 
 pub row-at-in : (xs : List Halfsegment) (i : ℕ) (d : Halfsegment) → i < length xs → row-at xs i ≡ Ok (getD xs i d)
 row-at-in [] i d h = absurd (omega arith)
@@ -76,7 +70,3 @@ pub row-at-past : (xs : List Halfsegment) (i : ℕ) (f : NoSuchPlace) → Err f 
 row-at-past [] i f e = omega arith
 row-at-past (x ∷ xs) zero f e = absurd (grind arith)
 row-at-past (x ∷ xs) (suc i) f e = let h = row-at-past xs i f e in omega arith
-
--- what an `Ok` of `insert` says
-pub insert-within : (xs : List Halfsegment) (room i : ℕ) → Ok tt ≡ insert-answer xs room i → (i ≤ length xs) × (length xs < room)
-insert-within xs room i e = (grind (arith, tells), grind (arith, tells))

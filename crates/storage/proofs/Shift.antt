@@ -1,12 +1,9 @@
 -- Shifting there and back, and what it leaves of the clauses of a store. The main lemmas are `there-and-back`, `insert-moved` and `remove-moved`.
-use mathlib.Core.Path.{_≡_, refl, sym, ap, _∙_}
-use mathlib.Core.Bool.{true, false}
-use mathlib.Core.List.{List, [], _∷_, _++_, map}
-use Prim.Native.Nat.{ℕ, zero, suc, _+_, _<_, _≤_}
+use mathlib.Core.Path.{_≡_, refl, ap, _∙_}
+use mathlib.Core.List.{List, [], _∷_, map}
+use Prim.Native.Nat.{ℕ, zero, suc, _+_}
 use native.Mathlib.Omega.{arith}
-use borrow.Author.Needs.{needs}
 use lib.IntN.{ℤ, _+ℤ_, _-ℤ_}
-use lib.ListN.{length, take, drop}
 use mir.Syntax.{w32}
 use mir.Val.{SFits}
 use Rattle.std.specs.Holes.{inserted, removed}
@@ -18,7 +15,6 @@ use Rattle.std.proofs.shelf.Lists.{map-append, take-map, drop-map, length-map}
 use Rattle.plane.specs.declared.halfsegment.Halfsegment.{Halfsegment}
 use Rattle.storage.specs.declared.interface.NoSuchPlace.{NoSuchPlace}
 use Rattle.storage.specs.declared.interface.InsertRefusal.{InsertRefusal}
-use Rattle.storage.specs.declared.interface.InsertRefusal.the-variants.{NoPlace, NoRoom}
 use Rattle.storage.specs.Rows.{row-at, Inserted, Removed, after}
 use Rattle.storage.proofs.Rows.{Fits32}
 use Rattle.storage.specs.Shift.{moved, moved-back}

@@ -1,6 +1,4 @@
-use mathlib.Core.Path.{sym, ap, _∙_}
-use mathlib.Core.Bool.{true, false}
-use native.Mathlib.Omega.{arith}
+use mathlib.Core.Path.{sym, _∙_}
 use Rattle.plane.specs.Meeting.{drawable, improper}
 use Rattle.plane.proofs.Meetings.{signs-tell}
 use Rattle.plane.proofs.Steps.{drawable-parts, and-both}

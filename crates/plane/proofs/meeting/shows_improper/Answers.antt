@@ -1,4 +1,4 @@
-use mathlib.Core.Path.{sym, ap, ap₂, _∙_}
+use mathlib.Core.Path.{sym, ap, _∙_}
 use mathlib.Core.Bool.{_&&_}
 use Rattle.plane.specs.Points.{orientation}
 use Rattle.plane.specs.Meeting.{opposite}

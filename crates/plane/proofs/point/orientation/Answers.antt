@@ -1,10 +1,8 @@
-use mathlib.Core.Path.{_≡_, _∙_}
+use mathlib.Core.Path.{_∙_}
 use borrow.Author.Needs.{needs}
 use lib.IntN.{_-ℤ_, _*ℤ_}
-use mir.Syntax.{w32, w64}
-use mir.Val.{SFits}
+use mir.Syntax.{w64}
 use Rattle.std.specs.shelf.Signed.{wrapped}
-use Rattle.plane.specs.Points.{orientation}
 use Rattle.plane.proofs.Bounds.{difference-is, twisted, orientation-exact}
 use Rattle.plane.proofs.point.orientation.Needs as need
 

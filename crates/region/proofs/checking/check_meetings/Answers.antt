@@ -4,7 +4,6 @@ use mathlib.Core.Logic.{⊎-elim}
 use native.Mathlib.Omega.{arith}
 use Rattle.std.proofs.shelf.Tests.{cases-lt}
 use borrow.Author.Needs.{needs}
-use Prim.Native.Nat.{_<_, _≤_}
 use Rattle.algebra.proofs.Members.{apart}
 use Rattle.plane.specs.Rows.{left, segment-of}
 use Rattle.plane.specs.Meeting.{improper}

@@ -1,9 +1,8 @@
-use mathlib.Core.Path.{sym, ap, subst, _∙_}
-use mathlib.Core.Bool.{not, true}
+use mathlib.Core.Path.{ap, _∙_}
+use mathlib.Core.Bool.{not}
 use native.Mathlib.Omega.{arith}
-use Prim.Native.Nat.{_-_, _<_}
+use Prim.Native.Nat.{_-_}
 use lib.ListN.{length}
-use Rattle.plane.specs.Rows.{fit}
 use Rattle.storage.proofs.Rows.{row-at-past}
 use Rattle.region.specs.declared.refusals.CheckRefusal.the-variants.{Unsorted}
 use Rattle.region.specs.Check.{misplaced}

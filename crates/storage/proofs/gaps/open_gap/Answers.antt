@@ -1,7 +1,6 @@
-use mathlib.Core.Path.{_≡_, sym, ap, _∙_}
+use mathlib.Core.Path.{ap, _∙_}
 use native.Mathlib.Omega.{arith}
-use Prim.Native.Nat.{_-_, _+_}
-use lib.ListN.{set, getD}
+use Prim.Native.Nat.{_-_}
 use Rattle.storage.specs.Gaps.{opened}
 use Rattle.storage.proofs.Moves.{open-none, open-more}
 use Rattle.storage.proofs.gaps.open_gap.Needs as need

@@ -1,7 +1,7 @@
-use mathlib.Core.Path.{_≡_, _∙_}
+use mathlib.Core.Path.{_∙_}
 use borrow.Author.Needs.{needs}
 use lib.IntN.{_+ℤ_, _*ℤ_}
-use mir.Syntax.{w32, w64}
+use mir.Syntax.{w64}
 use Rattle.std.specs.shelf.Signed.{wrapped}
 use Rattle.plane.proofs.Bounds.{difference-is, summed, reach-exact}
 use Rattle.plane.proofs.halfsegment.Halfsegment.reach.Needs as need

@@ -1,4 +1,4 @@
-use mathlib.Core.Path.{_≡_, ap, refl, sym, _∙_}
+use mathlib.Core.Path.{_≡_, ap, refl, _∙_}
 use native.Mathlib.Omega.{arith}
 use borrow.Author.Needs.{needs}
 use Prim.Native.Nat.{_*_, _/_}
@@ -6,7 +6,6 @@ use lib.ListN.{length, take}
 use Rattle.storage.specs.Entries.{entries, over}
 use Rattle.storage.proofs.Entries.{length-entries, over-entries}
 use Rattle.storage.proofs.Rows.{Fits32, insert-stands, insert-no-place, insert-no-room}
-use Rattle.storage.specs.Bytes.{rows-of}
 use Rattle.storage.proofs.RowBytes.{length-rows-of, insert-rows}
 use Rattle.storage.proofs.bytes.ByteStoring.insert.Needs as need
 

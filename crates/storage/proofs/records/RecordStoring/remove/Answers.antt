@@ -1,6 +1,5 @@
 use mathlib.Core.Path.{refl}
 use native.Mathlib.Omega.{arith}
-use lib.ListN.{length}
 use Rattle.storage.specs.Entries.{entries}
 use Rattle.storage.proofs.Entries.{length-entries, over-entries}
 use Rattle.storage.proofs.Rows.{remove-stands, remove-no-place, removed-is}

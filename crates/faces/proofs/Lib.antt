@@ -1,0 +1,12 @@
+pub mod Best
+pub mod Between
+pub mod Column
+pub mod Corners
+pub mod Example
+pub mod Gaps
+pub mod Leads
+pub mod Legs
+pub mod Moves
+pub mod Parity
+pub mod Touching
+pub mod Walks

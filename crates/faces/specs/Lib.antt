@@ -1,0 +1,5 @@
+pub mod Heights
+pub mod Below
+pub mod Components
+pub mod Theorems
+pub mod Example
