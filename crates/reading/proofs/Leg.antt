@@ -16,15 +16,12 @@ use Rattle.plane.proofs.Sharing.{quad-of, shared-cut, shared-rise, leg-back}
 use Rattle.plane.proofs.Weights.{Passing, falling, rising, flat, not-zero-above, not-zero-below}
 use Rattle.plane.proofs.Crossed.{signs, overlap-x, not-beside, no-flat, crossed-of}
 use Rattle.plane.proofs.Any.{clean-back, any-touch-test, any-cross-test, scale-le, scale-lt, positive-scaled}
+use Rattle.reading.specs.Counting.{over}
 use Rattle.reading.proofs.Sides.{same-sides, through, through′}
 
 -- the line from a to b passes under s: s lies strictly above it, not left of a, and left of b
 abbrev pub under : Point → Point → Point → Bool
 under a b s = leZ (a .x) (s .x) && (ltZ (s .x) (b .x) && ltZ (pos 0) (orientation a b s))
-
--- the leg from p to q, to the right, passes over v: v lies strictly below it, right of p, and not right of q
-abbrev pub over : Point → Point → Point → Bool
-over p q v = ltZ (p .x) (v .x) && (leZ (v .x) (q .x) && ltZ (orientation p q v) (pos 0))
 
 -- the same of a leg either way round
 abbrev pub passes-over : Point → Point → Point → Bool

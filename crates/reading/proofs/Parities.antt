@@ -16,12 +16,12 @@ use Rattle.plane.specs.declared.point.Point.{Point}
 use Rattle.plane.specs.declared.segment.Segment.{Segment}
 use Rattle.plane.specs.Points.{same-point, orientation, scaled}
 use Rattle.plane.specs.Spots.{Spot, whole, Left-of, Touches, Crosses}
-use Rattle.plane.proofs.Points.{Before, same-point-is, same-point-holds}
+use Rattle.plane.proofs.Points.{Before, before-of, same-point-is, same-point-holds}
 use Rattle.plane.proofs.Standing.{before-scaled}
-use Rattle.plane.proofs.Bridge.{place, Stands, touches-at, crosses-at, Fair, scaled-twice, crosses-tell}
+use Rattle.plane.proofs.Bridge.{place, Stands, touches-at, crosses-at, Fair, scaled-twice, crosses-tell, cross-touch}
 use Rattle.reading.specs.Reading.{Planar, Clear, Reading}
-use Rattle.reading.specs.Counting.{ends, Closed-lines, passes-under, Met}
-use Rattle.reading.specs.Theorems.{Parity-reads}
+use Rattle.reading.specs.Counting.{ends, Closed-lines, passes-under, leg-over, Met}
+use Rattle.reading.specs.Theorems.{Leg-tells, Parity-sums, Parity-reads}
 use Rattle.reading.proofs.Lists.{lower-first, same-or-not, odd-one}
 use Rattle.reading.proofs.Scales.{both, first, second, both-fine, first-stands, second-stands, not-crossed, met-fair, met-crosses}
 use Rattle.reading.proofs.Leg.{under, over-at, leg-sides, under-scaled}
@@ -51,6 +51,44 @@ module _ (k : ℤ) (p q : Point) (s t : Spot) (hk : pos 0 <ℤ k) (hs : Stands s
     where
       sorted : (c a b d e : Bool) → differ (differ c (differ a b)) (differ d e) ≡ differ (differ c d) (differ a (differ b e))
       sorted c a b d e = grind arith
+
+-- the same of the spots themselves: one line, and all lines
+pub leg-tells : Leg-tells
+leg-tells s t l o = record {
+  apart = λ n. sum (not-touched-fair n) ∙ ap (λ c. differ c sides) (none n);
+  crossed = λ c. sum (met-one c) ∙ ap (λ x. differ x sides) (all c);
+}
+  where
+    sides : Bool
+    sides = differ (leg-over s t (l .low)) (leg-over s t (l .high))
+
+    sum : touches-at (both s t) (first s t) (second s t) l ≡ crosses-at (both s t) (first s t) (second s t) l → differ (passes-under s l) (passes-under t l) ≡ differ (crosses-at (both s t) (first s t) (second s t) l) (differ (leg-over s t (l .low)) (leg-over s t (l .high)))
+    sum e = line-sum (both s t) (first s t) (second s t) s t (both-fine s t) (first-stands s t) (second-stands s t) l (before-of (l .low) (l .high) o) e
+
+    none : ¬ Touches s t l → crosses-at (both s t) (first s t) (second s t) l ≡ false
+    none n = not-crossed (both s t) (first s t) (second s t) s t (both-fine s t) (first-stands s t) (second-stands s t) l n
+
+    all : Crosses s t l → crosses-at (both s t) (first s t) (second s t) l ≡ true
+    all c = crosses-tell (both s t) (first s t) (second s t) s t (both-fine s t) (first-stands s t) (second-stands s t) l .1 c
+
+    not-touched-fair : ¬ Touches s t l → touches-at (both s t) (first s t) (second s t) l ≡ crosses-at (both s t) (first s t) (second s t) l
+    not-touched-fair n = met-fair (both s t) (first s t) (second s t) s t (both-fine s t) (first-stands s t) (second-stands s t) (l ∷ []) (λ m. false) (λ m i. inr (refl, subst (λ x. ¬ Touches s t x) (only i) n)) l here
+      where
+        only : {m : Segment} → m ∈ (l ∷ []) → l ≡ m
+        only here = refl
+        only (there i) = absurd (none-of i)
+          where
+            none-of : {m : Segment} → m ∈ [] → ⊥
+            none-of z = elim z [ ]
+
+    met-one : Crosses s t l → touches-at (both s t) (first s t) (second s t) l ≡ crosses-at (both s t) (first s t) (second s t) l
+    met-one c = cross-touch (scaled (both s t) (l .low)) (scaled (both s t) (l .high)) (first s t) (second s t) (all c) ∙ sym (all c)
+
+pub parity-sums : Parity-sums
+parity-sums ls o s t meets met =
+    sym (ap₂ differ (odd-counts Segment (passes-under s) ls) (odd-counts Segment (passes-under t) ls))
+    ∙ parity-sum (both s t) (first s t) (second s t) s t (both-fine s t) (first-stands s t) (second-stands s t) ls (lower-first ls o) (met-fair (both s t) (first s t) (second s t) s t (both-fine s t) (first-stands s t) (second-stands s t) ls meets met)
+    ∙ ap₂ differ (sym (odd-same meets (crosses-at (both s t) (first s t) (second s t)) ls (met-crosses (both s t) (first s t) (second s t) s t (both-fine s t) (first-stands s t) (second-stands s t) ls meets met)) ∙ odd-counts Segment meets ls) (odd-counts Point (leg-over s t) (ends ls))
 
 -- left of all lines none passes under
 pub left-of-all : (ls : List Segment) (s : Spot) → ((l : Segment) → l ∈ ls → Left-of s (whole (l .low)) × Left-of s (whole (l .high))) → odd-times (passes-under s) ls ≡ false

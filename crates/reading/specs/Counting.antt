@@ -2,7 +2,7 @@
 use mathlib.Core.Path.{_≡_}
 use mathlib.Core.Logic.{_⊎_}
 use mathlib.Core.List.{List, [], _∷_}
-use mathlib.Core.Bool.{Bool, true, false, _&&_}
+use mathlib.Core.Bool.{Bool, true, false, _&&_, _||_}
 use Prim.Native.Nat.{ℕ}
 use lib.IntN.{pos, _*ℤ_}
 use lib.Signed.{ltZ, leZ}
@@ -29,6 +29,16 @@ Closed-lines ls = (v : Point) → odd (degree-at ls v) ≡ false
 abbrev pub passes-under : Spot → Segment → Bool
 passes-under s l =
     leZ (s .k *ℤ l .low .x) (s .x) && (ltZ (s .x) (s .k *ℤ l .high .x) && ltZ (pos 0) (orientation (scaled (s .k) (l .low)) (scaled (s .k) (l .high)) (record { x = s .x; y = s .y })))
+
+-- the leg from p to q, to the right, passes over v: v lies strictly below it, right of p, and not right of q
+abbrev pub over : Point → Point → Point → Bool
+over p q v = ltZ (p .x) (v .x) && (leZ (v .x) (q .x) && ltZ (orientation p q v) (pos 0))
+
+-- the same of a leg from spot to spot, either way round, at a fineness of both
+abbrev pub leg-over : Spot → Spot → Point → Bool
+leg-over s t v =
+    over (scaled (t .k) (record { x = s .x; y = s .y })) (scaled (s .k) (record { x = t .x; y = t .y })) (scaled (s .k *ℤ t .k) v)
+    || over (scaled (s .k) (record { x = t .x; y = t .y })) (scaled (t .k) (record { x = s .x; y = s .y })) (scaled (s .k *ℤ t .k) v)
 
 -- an odd number of lines under the spot
 abbrev pub parity : List Segment → Spot → Bool

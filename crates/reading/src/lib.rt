@@ -1,6 +1,20 @@
 //! Readings of a plan: which ground is covered and which is bare. Nothing here runs: each function's contract is a theorem.
 ghost use Rattle.reading.specs.Example.{Triangle};
-ghost use Rattle.reading.specs.Theorems.{Closed-reads, Crossings-count, Odd-corner-has-none, One-or-none, Parity-reads, Readings-agree};
+ghost use Rattle.reading.specs.Theorems.{Closed-reads, Crossings-count, Leg-tells, Odd-corner-has-none, One-or-none, Parity-reads, Parity-sums, Readings-agree};
+
+/// One leg and one line, that share no point or cross: under which ends of the leg the line passes.
+pub fn leg_tells() -> u8
+    ensures { λ _. ⌜ Leg-tells ⌝ }
+{
+    0
+}
+
+/// The same summed over all lines, modulo 2.
+pub fn parity_sums() -> u8
+    ensures { λ _. ⌜ Parity-sums ⌝ }
+{
+    0
+}
 
 /// On closed lines the parity of the lines under a spot is a reading.
 pub fn parity_reads() -> u8
