@@ -1,4 +1,6 @@
 //! Arithmetic for the proofs of the other crates. Nothing here runs: each function's contract is a theorem.
+#![tactic(auto)]
+
 ghost use Rattle.algebra.specs.Parity.{EvenCounts, OddCounts};
 ghost use Rattle.algebra.specs.Polynomial.{EquationsCarry, NormalFormDecides};
 

@@ -1,4 +1,6 @@
 //! Archives of plans: written field by field into lent bytes, and read back from them.
+#![tactic(auto)]
+
 mod fields;
 mod plans;
 mod reading;

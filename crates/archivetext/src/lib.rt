@@ -1,4 +1,6 @@
 //! Archives as text: packing a text into an archive, and unpacking one.
+#![tactic(auto)]
+
 mod faults;
 mod round;
 

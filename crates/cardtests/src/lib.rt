@@ -1,4 +1,6 @@
 //! Small examples of the refusal card and of the stores, run as tests.
+#![tactic(auto)]
+
 #[cfg(test)]
 mod tests {
     use plane::{Halfsegment, Point};

@@ -1,4 +1,6 @@
 //! What an archive's bytes are: dates, fields and plans, what reading them gives, and that reading is the inverse of writing.
+#![tactic(auto)]
+
 mod dates;
 mod faults;
 mod inverse;

@@ -1,4 +1,6 @@
 //! Faces of a plan: which covered ground is connected. Nothing here runs: each function's contract is a theorem.
+#![tactic(auto)]
+
 ghost use Rattle.faces.specs.Example.{ApartStaysApart};
 ghost use Rattle.faces.specs.Theorems.{BelowTells, BetweenColumns, ColumnJoins, LeftNeverMissing, WalkKeeps};
 

@@ -1,4 +1,6 @@
 //! Partitions of the places of a list: each place has a code, and places with one code are one class.
+#![tactic(auto)]
+
 mod codes;
 mod joining;
 mod numbering;

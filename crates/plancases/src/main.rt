@@ -1,4 +1,6 @@
 //! Checks many small plans: each begins with a line `#NAME`, and the rows of the plan follow it.
+#![tactic(auto)]
+
 use anyhow::anyhow;
 use plane::{Halfsegment, Point};
 use plantext::{VerdictLine, read_rows};

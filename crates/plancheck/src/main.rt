@@ -1,4 +1,6 @@
 //! Reads the rows of a plan from standard input and tells whether they are well formed and closed.
+#![tactic(auto)]
+
 use anyhow::anyhow;
 use plane::{Halfsegment, Point};
 use plantext::{LineFault, VerdictLine, read_rows};

@@ -1,4 +1,6 @@
 //! Exact plane geometry: points, segments, halfsegments and their order, and how two segments meet.
+#![tactic(auto)]
+
 mod halfsegment;
 mod meeting;
 mod point;

@@ -1,4 +1,6 @@
 //! Plans as text: a row on each line, and the line that tells what check found.
+#![tactic(auto)]
+
 mod lines;
 mod numbers;
 mod plans;

@@ -1,4 +1,6 @@
 //! Readings of a plan: which ground is covered and which is bare. Nothing here runs: each function's contract is a theorem.
+#![tactic(auto)]
+
 ghost use Rattle.reading.specs.Example.{Triangle};
 ghost use Rattle.reading.specs.Theorems.{ClosedReads, CrossingsCount, LegTells, OddCornerHasNone, OneOrNone, ParityReads, ParitySums, ReadingsAgree};
 

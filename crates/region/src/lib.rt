@@ -1,4 +1,6 @@
 //! Plans as lists of halfsegments: whether their rows are well formed and closed.
+#![tactic(auto)]
+
 mod checking;
 mod lines;
 mod refusals;

@@ -1,4 +1,6 @@
 //! Where the rows of a plan are kept: the interfaces of a source and a store, and the stores over lent memory.
+#![tactic(auto)]
+
 mod bytes;
 mod equality;
 mod gaps;

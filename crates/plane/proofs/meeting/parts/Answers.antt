@@ -11,5 +11,5 @@ side-requires-2 c = (c.requires.0, (drawable_parts c.args.m c.requires.1).high)
 
 pub returns : goal.returns
 returns c =
-    c.are-opposite.ensures
+    c.are_opposite.ensures
     ∙ ap₂ opposite (back c.side.result _ (search rules) c.side.ensures) (back c.side-2.result _ (search rules) c.side-2.ensures)

@@ -15,7 +15,7 @@ returns-then-not-parts c =
     let l = c.args.l in
     let m = c.args.m in
     ap (λ t. t && opposite (orientation l.low l.high m.low) (orientation l.low l.high m.high)) c.if-not-parts.ensures
-    ∙ improper_crossing l m (sym c.has-inside.ensures ∙ c.if-has-inside.false) (sym c.has-inside-2.ensures ∙ c.if-has-inside-2.false)
+    ∙ improper_crossing l m (sym c.has_inside.ensures ∙ c.if-has_inside.false) (sym c.has_inside-2.ensures ∙ c.if-has-inside-2.false)
 
 pub returns : goal.returns
 returns c =
@@ -23,4 +23,4 @@ returns c =
     let m = c.args.m in
     c.parts-2.ensures
     ∙ ap (λ t. t && opposite (orientation l.low l.high m.low) (orientation l.low l.high m.high)) c.if-not-parts.ensures
-    ∙ improper_crossing l m (sym c.has-inside.ensures ∙ c.if-has-inside.false) (sym c.has-inside-2.ensures ∙ c.if-has-inside-2.false)
+    ∙ improper_crossing l m (sym c.has_inside.ensures ∙ c.if-has_inside.false) (sym c.has_inside-2.ensures ∙ c.if-has-inside-2.false)
