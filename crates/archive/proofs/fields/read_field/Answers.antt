@@ -28,8 +28,8 @@ returns c =
     record {
       answer = (
         fits bs s.at s.end tag (omega arith) (sym c.if-not-admits.ensures) (omega arith) (omega arith),
-        c.field-of.ensures.tag ∙ sym (tag_due bs s.at s.end tag (omega arith)),
-        same_part c.args.bytes _ _ (s.at + 3) _ _ c.part-content.ensures size c.field-of.ensures.part,
+        c.field_of.ensures.tag ∙ sym (tag_due bs s.at s.end tag (omega arith)),
+        same_part c.args.bytes _ _ (s.at + 3) _ _ c.part-content.ensures size c.field_of.ensures.part,
       );
       span = same_place s _ _ size;
     }

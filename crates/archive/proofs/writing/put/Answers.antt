@@ -3,4 +3,4 @@ use Rattle.archive.proofs.Patches.{put_is}
 use Rattle.archive.proofs.writing.put.Goals as goal
 
 pub returns : goal.returns
-returns c = put_is c.args.bytes.now c.args.new.now _ c.args.at (omega arith) c.copy-from-slice.ensures.after
+returns c = put_is c.args.bytes.now c.args.new.now _ c.args.at (omega arith) c.copy_from_slice.ensures.after

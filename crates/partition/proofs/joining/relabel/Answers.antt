@@ -21,7 +21,7 @@ loop-i-preserved g c =
     elim c.if-code-from.branch [
       | then-code-from w ↦
           let e : f (code x) ≡ a.to = recoded_at a.from a.to (code x) (sym is ∙ w.if-code-from.true) in
-          written h a.labels.now c.loop-i.labels _ c.loop-i.i x c.loop-i-test.true c.loop-i.invariant c.index-labels-i.is w.with-code.result (w.with-code.ensures ∙ ap (recode x) (sym e)) w.labels-is
+          written h a.labels.now c.loop-i.labels _ c.loop-i.i x c.loop-i-test.true c.loop-i.invariant c.index-labels-i.is w.with_code.result (w.with_code.ensures ∙ ap (recode x) (sym e)) w.labels-is
       | else-code-from w ↦
           let e : f (code x) ≡ code x = recoded_off a.from a.to (code x) (λ q. w.if-code-from.false (is ∙ q)) in
           skipped h a.labels.now c.loop-i.labels _ c.loop-i.i x c.loop-i-test.true c.loop-i.invariant c.index-labels-i.is (ap (recode x) e ∙ g.met.T.Coded.kept x) w.labels-is

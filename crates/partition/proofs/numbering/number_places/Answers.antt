@@ -11,8 +11,8 @@ use Rattle.partition.proofs.numbering.number_places.Goals.{then-c-i, else-c-i}
 pub loop-i-init : goal.loop-i-init
 loop-i-init g c = record { done = refl; counted = refl; small = omega arith }
 
-pub overflow-add-count : goal.overflow-add-count
-overflow-add-count g c = let l = c.loop-i.invariant.small in search rules
+pub overflow_add-count : goal.overflow_add-count
+overflow_add-count g c = let l = c.loop-i.invariant.small in search rules
 
 -- the code is a place of the list
 below : (g : given.Over) (c : goal.Else-c-i g) → c.code-c.result < length c.loop-i.labels
@@ -20,8 +20,8 @@ below g c =
     let le = code_le g.T.Coded.code g.T.Coded.recode c.args.labels.now c.loop-i.labels c.loop-i.i c.loop-i.count c.index-labels-i.result c.loop-i-test.true c.requires c.loop-i.invariant c.index-labels-i.is in
     omega arith
 
-pub offset-bounds-labels-c : goal.offset-bounds-labels-c
-offset-bounds-labels-c g c = let l = below g c in search rules
+pub offset_bounds-labels-c : goal.offset_bounds-labels-c
+offset_bounds-labels-c g c = let l = below g c in search rules
 
 pub bounds-labels-c : goal.bounds-labels-c
 bounds-labels-c g c = below g c
@@ -43,10 +43,10 @@ loop-i-preserved g c =
     let e = c.code-c.ensures in
     elim c.if-c-i.branch [
       | then-c-i w ↦
-          subst at_count (sym w.count-is) (turn_new code recode xs ys i n x c.loop-i-test.true c.requires c.loop-i.invariant c.index-labels-i.is zs w.with-code.result (sym e ∙ w.if-c-i.true) w.with-code.ensures w.labels-is)
+          subst at_count (sym w.count-is) (turn_new code recode xs ys i n x c.loop-i-test.true c.requires c.loop-i.invariant c.index-labels-i.is zs w.with_code.result (sym e ∙ w.if-c-i.true) w.with_code.ensures w.labels-is)
       | else-c-i w ↦
           let y = w.index-labels-c.result in
-          subst at_count (sym w.count-is) (turn_old code recode xs ys i n x c.loop-i-test.true c.requires c.loop-i.invariant c.index-labels-i.is g.met.T.Coded.reads zs w.with-code-else-c-i.result y (λ q. w.if-c-i.false (e ∙ q)) (w.index-labels-c.is ∙ ap (λ k. get_or ys k y) e) (w.with-code-else-c-i.ensures ∙ ap (recode x) w.code.ensures) w.labels-is)
+          subst at_count (sym w.count-is) (turn_old code recode xs ys i n x c.loop-i-test.true c.requires c.loop-i.invariant c.index-labels-i.is g.met.T.Coded.reads zs w.with_code-else-c-i.result y (λ q. w.if-c-i.false (e ∙ q)) (w.index-labels-c.is ∙ ap (λ k. get_or ys k y) e) (w.with_code-else-c-i.ensures ∙ ap (recode x) w.code.ensures) w.labels-is)
     ]
 
 pub returns : goal.returns

@@ -9,7 +9,7 @@ returns c =
     let l = c.args.l in
     let m = c.args.m in
     let dl = sym c.is_drawable.ensures ∙ c.if-not-is_drawable.false in
-    let dm = sym c.is_drawable-2.ensures ∙ c.if-not-is-drawable-2.false in
-    let e = c.shows-improper.ensures in
+    let dm = sym c.is_drawable-2.ensures ∙ c.if-not-is_drawable-2.false in
+    let e = c.shows_improper.ensures in
     let t = signs_tell l m (drawable_parts l dl).ordered (drawable_parts m dm).ordered in
-    record { shared = λ p q. (λ h. t.0 (sym e ∙ h), λ h. e ∙ t.1 h); signs = and_both (drawable l) (drawable m) c.shows-improper.result (improper l m) dl dm e }
+    record { shared = λ p q. (λ h. t.0 (sym e ∙ h), λ h. e ∙ t.1 h); signs = and_both (drawable l) (drawable m) c.shows_improper.result (improper l m) dl dm e }

@@ -2,5 +2,5 @@ use Rattle.std.proofs.Common.{rules}
 use Rattle.plantext.proofs.Fields.{fifth_none}
 use Rattle.plantext.proofs.lines.parse_row.Goals as goal
 
-pub returns-then-is-some : goal.returns-then-is-some
-returns-then-is-some c = search (rules, fifth_none)
+pub returns-then-is_some : goal.returns-then-is_some
+returns-then-is_some c = search (rules, fifth_none)

@@ -14,4 +14,4 @@ pub loop-i-preserved : goal.loop-i-preserved
 loop-i-preserved c = read_more _ _ _ _ c.loop-i.invariant c.loop-i-test.true c.if-b-lt48.false c.if-b-gt57.false c.if-value-most.false
 
 pub returns : goal.returns
-returns c = read_all _ _ _ _ c.loop-i.invariant c.if-is-empty.ensures c.loop-i-test.false
+returns c = read_all _ _ _ _ c.loop-i.invariant c.if-is_empty.ensures c.loop-i-test.false

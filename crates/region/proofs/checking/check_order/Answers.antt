@@ -8,23 +8,23 @@ use Rattle.region.proofs.checking.check_order.Goals as goal
 pub loop-i-init : goal.loop-i-init
 loop-i-init g c = first_misplaced (g.S.Source.rows c.args.s.now)
 
-pub returns-in-default : goal.returns-in-default
-returns-in-default g c = absurd (omega (arith, row_at_past (g.S.Source.rows c.args.s.now) (c.loop-i.i - 1) _ c.in-default.ensures))
+pub returns-in_default : goal.returns-in_default
+returns-in_default g c = absurd (omega (arith, row_at_past (g.S.Source.rows c.args.s.now) (c.loop-i.i - 1) _ c.in_default.ensures))
 
-pub returns-in-default-row : goal.returns-in-default-row
-returns-in-default-row g c = absurd (omega (arith, row_at_past (g.S.Source.rows c.args.s.now) c.loop-i.i _ c.in-default-row.ensures))
+pub returns-in_default-row : goal.returns-in_default-row
+returns-in_default-row g c = absurd (omega (arith, row_at_past (g.S.Source.rows c.args.s.now) c.loop-i.i _ c.in_default-row.ensures))
 
-pub returns-then-not-comes-before : goal.returns-then-not-comes-before
-returns-then-not-comes-before g c =
+pub returns-then-not-comes_before : goal.returns-then-not-comes_before
+returns-then-not-comes_before g c =
     let rows = g.S.Source.rows c.args.s.now in
     refused_found (misplaced rows) Unsorted (length rows) c.loop-i.i (omega arith)
-    (neighbours rows c.requires c.loop-i.i _ _ c.comes-before.result (omega arith) (omega arith) c.in-Ok.ensures c.in-Ok-row.ensures c.comes-before.ensures ∙ ap not c.if-not-comes-before.true) c.loop-i.invariant
+    (neighbours rows c.requires c.loop-i.i _ _ c.comes_before.result (omega arith) (omega arith) c.in-Ok.ensures c.in-Ok-row.ensures c.comes_before.ensures ∙ ap not c.if-not-comes_before.true) c.loop-i.invariant
 
 pub loop-i-preserved : goal.loop-i-preserved
 loop-i-preserved g c =
     let rows = g.S.Source.rows c.args.s.now in
     more (misplaced rows) c.loop-i.i c.loop-i.invariant
-    (neighbours rows c.requires c.loop-i.i _ _ c.comes-before.result (omega arith) (omega arith) c.in-Ok.ensures c.in-Ok-row.ensures c.comes-before.ensures ∙ ap not c.if-not-comes-before.false)
+    (neighbours rows c.requires c.loop-i.i _ _ c.comes_before.result (omega arith) (omega arith) c.in-Ok.ensures c.in-Ok-row.ensures c.comes_before.ensures ∙ ap not c.if-not-comes_before.false)
 
 pub returns : goal.returns
 returns g c =

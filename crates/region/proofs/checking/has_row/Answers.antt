@@ -5,8 +5,8 @@ use Rattle.region.specs.Check.{row}
 use Rattle.region.proofs.Passes.{read, more, stands_none, stands_at}
 use Rattle.region.proofs.checking.has_row.Goals as goal
 
-pub returns-in-default : goal.returns-in-default
-returns-in-default g c = absurd (omega (arith, row_at_past (g.S.Source.rows c.args.s.now) c.loop-i.i _ c.in-default.ensures))
+pub returns-in_default : goal.returns-in_default
+returns-in_default g c = absurd (omega (arith, row_at_past (g.S.Source.rows c.args.s.now) c.loop-i.i _ c.in_default.ensures))
 
 pub returns-then-coincides : goal.returns-then-coincides
 returns-then-coincides g c = stands_at (g.S.Source.rows c.args.s.now) c.args.h _ c.loop-i.i (omega arith) c.in-Ok.ensures (sym c.coincides.ensures ∙ c.if-coincides.true)

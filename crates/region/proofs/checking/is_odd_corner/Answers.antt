@@ -7,15 +7,15 @@ use Rattle.region.proofs.Passes.{odd_hit, odd_missed}
 use Rattle.region.proofs.checking.is_odd_corner.Goals as goal
 use Rattle.region.proofs.checking.is_odd_corner.Goals.{then-coincides, else-coincides}
 
-pub returns-in-default : goal.returns-in-default
-returns-in-default g c = absurd (omega (arith, row_at_past (g.S.Source.rows c.args.s.now) c.loop-i.i _ c.in-default.ensures))
+pub returns-in_default : goal.returns-in_default
+returns-in_default g c = absurd (omega (arith, row_at_past (g.S.Source.rows c.args.s.now) c.loop-i.i _ c.in_default.ensures))
 
 pub loop-i-preserved : goal.loop-i-preserved
 loop-i-preserved g c =
     let rows = g.S.Source.rows c.args.s.now in
     elim c.if-coincides.branch [
-      | then-coincides w ↦ w.is-odd-is ∙ odd_hit rows c.args.v c.loop-i.i _ c.loop-i.is_odd (omega arith) c.in-Ok.ensures (sym c.coincides.ensures ∙ w.if-coincides.true) c.loop-i.invariant
-      | else-coincides w ↦ w.is-odd-is ∙ odd_missed rows c.args.v c.loop-i.i _ c.loop-i.is_odd (omega arith) c.in-Ok.ensures (sym c.coincides.ensures ∙ w.if-coincides.false) c.loop-i.invariant
+      | then-coincides w ↦ w.is_odd-is ∙ odd_hit rows c.args.v c.loop-i.i _ c.loop-i.is_odd (omega arith) c.in-Ok.ensures (sym c.coincides.ensures ∙ w.if-coincides.true) c.loop-i.invariant
+      | else-coincides w ↦ w.is_odd-is ∙ odd_missed rows c.args.v c.loop-i.i _ c.loop-i.is_odd (omega arith) c.in-Ok.ensures (sym c.coincides.ensures ∙ w.if-coincides.false) c.loop-i.invariant
     ]
 
 pub returns : goal.returns

@@ -8,10 +8,10 @@ returns g c =
     let bs = c.args.bytes.now in
     let title = c.args.title.now in
     let rows = g.S.Source.rows c.args.source.now in
-    let fine = sym c.in-default.ensures in
+    let fine = sym c.in_default.ensures in
     let adm = admitted c.args.self (length bs) title rows fine in
     let is = grown c.args.self (length bs) title rows c.count-count.result (length title) c.count-count.ensures refl in
-    let written = add_bytes title rows bs _ _ _ _ _ c.args.self.len (length title) c.count-count.result refl c.count-count.ensures adm.fits c.put-head.ensures c.put-head-2.ensures c.put.ensures c.put-head-3.ensures c.put-rows.ensures in
+    let written = add_bytes title rows bs _ _ _ _ _ c.args.self.len (length title) c.count-count.result refl c.count-count.ensures adm.fits c.put_head.ensures c.put_head-2.ensures c.put.ensures c.put_head-3.ensures c.put_rows.ensures in
     record {
       answer = granted c.args.self (length bs) title rows _ is fine;
       bytes = written;

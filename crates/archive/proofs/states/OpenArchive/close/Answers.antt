@@ -6,7 +6,7 @@ use Rattle.archive.proofs.states.OpenArchive.close.Goals as goal
 pub returns : goal.returns
 returns c =
     let small : c.args.self.plans < 65536 = search rules in
-    let written = c.put.ensures ∙ ap (patched c.args.bytes.now c.args.self.len) (last_bytes c.args.self.plans c.to-be-bytes.result small c.to-be-bytes.ensures) in
+    let written = c.put.ensures ∙ ap (patched c.args.bytes.now c.args.self.len) (last_bytes c.args.self.plans c.to_be_bytes.result small c.to_be_bytes.ensures) in
     record {
       answer = search rules;
       bytes = written;

@@ -12,8 +12,8 @@ returns-then-i-len c =
     let n = length_rows_of (entries c.args.self.now.kept) in
     sym (row_at_out _ c.args.i (omega arith))
 
-pub row-from-requires : goal.row-from-requires
-row-from-requires c = rw c.part.ensures (search (rules, places))
+pub row_from-requires : goal.row_from-requires
+row_from-requires c = rw c.part.ensures (search (rules, places))
 
 pub returns : goal.returns
 returns c =
@@ -21,4 +21,4 @@ returns c =
     let e = length_entries c.args.self.now.kept in
     let n = length_rows_of bs in
     let same = row_between bs c.part.result.now c.args.i c.part.ensures in
-    ap Ok (c.row-from.ensures ∙ same ∙ sym (get_or_rows_of bs c.args.i c.row-from.result (omega arith))) ∙ sym (row_at_in _ c.args.i _ (omega arith))
+    ap Ok (c.row_from.ensures ∙ same ∙ sym (get_or_rows_of bs c.args.i c.row_from.result (omega arith))) ∙ sym (row_at_in _ c.args.i _ (omega arith))

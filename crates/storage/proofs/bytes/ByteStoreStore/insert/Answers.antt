@@ -27,7 +27,7 @@ returns c =
     let fits : Fits32 c.args.row = record { cx = search rules; cy = search rules; fx = search rules; fy = search rules } in
     let cut : entries c.cut.new.self ≡ take (16 * (length bs / 16)) bs = c.cut.ensures.entries ∙ ap (λ k. take k bs) (omega arith) in
     record {
-      changed = insert_stands _ _ _ c.args.i c.args.row (omega arith) (omega arith) (insert_rows bs _ _ _ c.args.i c.args.row fits cut c.row-bytes.ensures (omega arith) c.insert.ensures.entries);
+      changed = insert_stands _ _ _ c.args.i c.args.row (omega arith) (omega arith) (insert_rows bs _ _ _ c.args.i c.args.row fits cut c.row_bytes.ensures (omega arith) c.insert.ensures.entries);
       same = omega arith;
       within = omega arith;
       whole = c.insert.ensures.whole ∙ ap (over _) c.cut.ensures.whole;
