@@ -6,8 +6,8 @@ use crate::codes::Coded;
 
 /// Every code `from` becomes `to`.
 pub fn relabel<F, T: Coded<F>>(labels: &mut [T], from: usize, to: usize)
-    ensures labels { labels.new ≡ in_codes code recode (recoded from to) labels.old }
-    ensures codes { map code labels.new ≡ relabelled from to (map code labels.old) }
+    ensures labels { labels.new ≡ in_codes T.code T.recode (recoded from to) labels.old }
+    ensures codes { map T.code labels.new ≡ relabelled from to (map T.code labels.old) }
 {
     for i in 0..labels.len() {
         let x = labels[i];
@@ -20,8 +20,8 @@ pub fn relabel<F, T: Coded<F>>(labels: &mut [T], from: usize, to: usize)
 /// The classes of the places `i` and `j` become one: the code of the first becomes that of the second.
 /// Where a place is past the end, nothing changes.
 pub fn join<F, T: Coded<F>>(labels: &mut [T], i: usize, j: usize)
-    ensures labels { labels.new ≡ joined_in code recode labels.old i j }
-    ensures codes { map code labels.new ≡ merged (map code labels.old) (i, j) }
+    ensures labels { labels.new ≡ joined_in T.code T.recode labels.old i j }
+    ensures codes { map T.code labels.new ≡ merged (map T.code labels.old) (i, j) }
 {
     let n = labels.len();
     if i < n && j < n {

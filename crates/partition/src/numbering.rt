@@ -8,7 +8,7 @@ use crate::codes::Coded;
 
 /// The first place with the code `c`, or the count of places where there is none.
 pub fn first_place<F, T: Coded<F>>(labels: &[T], c: usize) -> usize
-    ensures { result ≡ place_of (map code labels.now) c }
+    ensures { result ≡ place_of (map T.code labels.now) c }
 {
     for i in 0..labels.len() {
         let x = labels[i];
@@ -21,7 +21,7 @@ pub fn first_place<F, T: Coded<F>>(labels: &[T], c: usize) -> usize
 
 /// Each code becomes the first place that has it. From the last place down, so that what is searched is not yet changed.
 fn to_first_places<F, T: Coded<F>>(labels: &mut [T])
-    ensures { labels.new ≡ in_codes code recode (place_of (map code labels.old)) labels.old }
+    ensures { labels.new ≡ in_codes T.code T.recode (place_of (map T.code labels.old)) labels.old }
 {
     for i in (0..labels.len()).rev() {
         let x = labels[i];
@@ -32,9 +32,9 @@ fn to_first_places<F, T: Coded<F>>(labels: &mut [T])
 
 /// Numbers codes that are first places: a place that is its own code is the next new one, any other copies from there.
 fn number_places<F, T: Coded<F>>(labels: &mut [T]) -> usize
-    requires { OwnFirsts (map code labels.old) }
-    ensures labels { labels.new ≡ in_codes code recode (number_of (map code labels.old)) labels.old }
-    ensures count { result ≡ count_of (map code labels.old) }
+    requires { OwnFirsts (map T.code labels.old) }
+    ensures labels { labels.new ≡ in_codes T.code T.recode (number_of (map T.code labels.old)) labels.old }
+    ensures count { result ≡ count_of (map T.code labels.old) }
 {
     let mut count = 0;
     for i in 0..labels.len() {
@@ -53,10 +53,10 @@ fn number_places<F, T: Coded<F>>(labels: &mut [T]) -> usize
 
 /// Each code becomes the number of its class: from 1, in the order of first places. The answer is how many classes there are.
 pub fn number<F, T: Coded<F>>(labels: &mut [T]) -> usize
-    ensures labels { labels.new ≡ in_codes code recode (number_of (map code labels.old)) labels.old }
-    ensures codes { map code labels.new ≡ numbered (map code labels.old) }
-    ensures count { result ≡ count_of (map code labels.old) }
-    ensures meaning { Numbered (map code labels.old) (map code labels.new) result }
+    ensures labels { labels.new ≡ in_codes T.code T.recode (number_of (map T.code labels.old)) labels.old }
+    ensures codes { map T.code labels.new ≡ numbered (map T.code labels.old) }
+    ensures count { result ≡ count_of (map T.code labels.old) }
+    ensures meaning { Numbered (map T.code labels.old) (map T.code labels.new) result }
 {
     to_first_places(labels);
     number_places(labels)

@@ -37,7 +37,7 @@ fn at_place(i: usize, tested: Result<(), RowFault>) -> Result<(), CheckRefusal>
 }
 
 fn check_each<S: Source>(s: &S) -> Result<(), CheckRefusal>
-    ensures { result ≡ each_answer (rows s.now) }
+    ensures { result ≡ each_answer (S.rows s.now) }
 {
     for i in 0..s.count() {
         let Ok(h) = s.row(i) else { return Ok(()) };
@@ -48,8 +48,8 @@ fn check_each<S: Source>(s: &S) -> Result<(), CheckRefusal>
 
 /// Whether each row comes after the one before it.
 fn check_order<S: Source>(s: &S) -> Result<(), CheckRefusal>
-    requires { Nowhere (length (rows s.now)) (Misfit (rows s.now)) }
-    ensures { result ≡ order_answer (rows s.now) }
+    requires { Nowhere (length (S.rows s.now)) (Misfit (S.rows s.now)) }
+    ensures { result ≡ order_answer (S.rows s.now) }
 {
     for i in 1..s.count() {
         let Ok(g) = s.row(i - 1) else { return Ok(()) };
@@ -63,7 +63,7 @@ fn check_order<S: Source>(s: &S) -> Result<(), CheckRefusal>
 
 /// Whether the row is one of the source's.
 fn has_row<S: Source>(s: &S, h: Halfsegment) -> bool
-    ensures { result ≡ stands (rows s.now) h }
+    ensures { result ≡ stands (S.rows s.now) h }
 {
     for i in 0..s.count() {
         let Ok(g) = s.row(i) else { return false };
@@ -76,7 +76,7 @@ fn has_row<S: Source>(s: &S, h: Halfsegment) -> bool
 
 /// Whether each row's twin is there.
 fn check_twins<S: Source>(s: &S) -> Result<(), CheckRefusal>
-    ensures { result ≡ twins_answer (rows s.now) }
+    ensures { result ≡ twins_answer (S.rows s.now) }
 {
     for i in 0..s.count() {
         let Ok(h) = s.row(i) else { return Ok(()) };
@@ -90,8 +90,8 @@ fn check_twins<S: Source>(s: &S) -> Result<(), CheckRefusal>
 /// Whether no two segments meet improperly. Each segment is met at its left row, and once a left row begins further
 /// right than a segment ends, so do all later ones.
 fn check_meetings<S: Source>(s: &S) -> Result<(), CheckRefusal>
-    requires { (Nowhere (length (rows s.now)) (Misfit (rows s.now))) × ((Rising (rows s.now)) × (Nowhere (length (rows s.now)) (Twinless (rows s.now)))) }
-    ensures { result ≡ meetings_answer (rows s.now) }
+    requires { (Nowhere (length (S.rows s.now)) (Misfit (S.rows s.now))) × ((Rising (S.rows s.now)) × (Nowhere (length (S.rows s.now)) (Twinless (S.rows s.now)))) }
+    ensures { result ≡ meetings_answer (S.rows s.now) }
 {
     let n = s.count();
     let mut found = Ok(());
@@ -114,7 +114,7 @@ fn check_meetings<S: Source>(s: &S) -> Result<(), CheckRefusal>
 
 /// Whether an odd number of rows have the dominating point `v`.
 fn is_odd_corner<S: Source>(s: &S, v: Point) -> bool
-    ensures { result ≡ odd (degree (rows s.now) v) }
+    ensures { result ≡ odd (degree (S.rows s.now) v) }
 {
     let mut is_odd = false;
     for i in 0..s.count() {
@@ -128,7 +128,7 @@ fn is_odd_corner<S: Source>(s: &S, v: Point) -> bool
 
 /// Whether each corner has an even number of rows.
 fn check_corners<S: Source>(s: &S) -> Result<(), CheckRefusal>
-    ensures { result ≡ corners_answer (rows s.now) }
+    ensures { result ≡ corners_answer (S.rows s.now) }
 {
     for i in 0..s.count() {
         let Ok(h) = s.row(i) else { return Ok(()) };
@@ -142,8 +142,8 @@ fn check_corners<S: Source>(s: &S) -> Result<(), CheckRefusal>
 /// Whether the rows, with whatever coordinates, are well formed and closed; else the first thing that is wrong: row by
 /// row the range and the length, then for all rows the order, the twins, the meetings, the corners.
 pub fn check<S: Source>(s: &S) -> Result<(), CheckRefusal>
-    ensures answer { result ≡ check_of (rows s.now) }
-    ensures verdict { Verdict (rows s.now) result }
+    ensures answer { result ≡ check_of (S.rows s.now) }
+    ensures verdict { Verdict (S.rows s.now) result }
 {
     check_each(s)?;
     check_order(s)?;
