@@ -22,6 +22,23 @@ BY_HAND = {
     "eqZ-holds": "eq_int_holds",
     "eqZ-is": "eq_int_is",
     "getD-rows-of": "get_or_rows_of",
+    "ltQ": "ratio_lt",
+    "leQ": "ratio_le",
+    "eqQ": "ratio_eq",
+    "alongE": "along_e",
+    "crossE": "cross_e",
+    "gapE": "gap_e",
+    "levelE": "level_e",
+    "restE": "rest_e",
+    "sizeE": "size_e",
+    "tallE": "tall_e",
+    "turnE": "turn_e",
+    "turnX": "turn_x",
+    "xE": "x_e",
+    "yE": "y_e",
+    "hM": "h_m",
+    "sA": "s_a",
+    "sP": "s_p",
 }
 
 # names that are bound by a pattern, a λ or a section and not by a signature of their own

@@ -39,11 +39,11 @@ pub lean_back : (l m : Segment) → lean m l ≡ neg_ℤ (lean l m)
 lean_back l m = negated (up l) (up m) (across l) (across m)
 
 -- for `ring`: of a segment from (ax, ay) to (bx, by), a second from (cx, cy) to (dx, dy), and a spot with x and k
-abbrev pub tallE : (ax ay bx by x k : Ex) → Ex
-tallE ax ay bx by x k = k ⊗ (ay ⊗ (bx ⊖ ax)) ⊕ (by ⊖ ay) ⊗ (x ⊖ k ⊗ ax)
+abbrev pub tall_e : (ax ay bx by x k : Ex) → Ex
+tall_e ax ay bx by x k = k ⊗ (ay ⊗ (bx ⊖ ax)) ⊕ (by ⊖ ay) ⊗ (x ⊖ k ⊗ ax)
 
-abbrev pub gapE : (ax ay bx by cx cy dx dy x k : Ex) → Ex
-gapE ax ay bx by cx cy dx dy x k = tallE ax ay bx by x k ⊗ (dx ⊖ cx) ⊖ tallE cx cy dx dy x k ⊗ (bx ⊖ ax)
+abbrev pub gap_e : (ax ay bx by cx cy dx dy x k : Ex) → Ex
+gap_e ax ay bx by cx cy dx dy x k = tall_e ax ay bx by x k ⊗ (dx ⊖ cx) ⊖ tall_e cx cy dx dy x k ⊗ (bx ⊖ ax)
 
 abbrev pub Wide : Segment → Type 0
 Wide l = pos 0 <ℤ across l
@@ -69,14 +69,14 @@ module _ (s : Spot) (l : Segment) where
   abbrev numbers : List ℤ
   numbers = l.low.x ∷ l.low.y ∷ l.high.x ∷ l.high.y ∷ s.x ∷ s.y ∷ s.k ∷ []
 
-  abbrev restE : Ex
-  restE = var 5 ⊗ (var 2 ⊖ var 0) ⊖ tallE (var 0) (var 1) (var 2) (var 3) (var 4) (var 6)
+  abbrev rest_e : Ex
+  rest_e = var 5 ⊗ (var 2 ⊖ var 0) ⊖ tall_e (var 0) (var 1) (var 2) (var 3) (var 4) (var 6)
 
   pub rest_low : s.k *ℤ l.low.x ≡ s.x → rest s l ≡ across l *ℤ (s.y -ℤ s.k *ℤ l.low.y)
-  rest_low e = ring_from numbers (by (var 3 ⊖ var 1) (var 6 ⊗ var 0) (var 4) ∷ []) (e, tt) restE ((var 2 ⊖ var 0) ⊗ (var 5 ⊖ var 6 ⊗ var 1)) refl
+  rest_low e = ring_from numbers (by (var 3 ⊖ var 1) (var 6 ⊗ var 0) (var 4) ∷ []) (e, tt) rest_e ((var 2 ⊖ var 0) ⊗ (var 5 ⊖ var 6 ⊗ var 1)) refl
 
   pub rest_high : s.k *ℤ l.high.x ≡ s.x → rest s l ≡ across l *ℤ (s.y -ℤ s.k *ℤ l.high.y)
-  rest_high e = ring_from numbers (by (var 3 ⊖ var 1) (var 6 ⊗ var 2) (var 4) ∷ []) (e, tt) restE ((var 2 ⊖ var 0) ⊗ (var 5 ⊖ var 6 ⊗ var 3)) refl
+  rest_high e = ring_from numbers (by (var 3 ⊖ var 1) (var 6 ⊗ var 2) (var 4) ∷ []) (e, tt) rest_e ((var 2 ⊖ var 0) ⊗ (var 5 ⊖ var 6 ⊗ var 3)) refl
 
 pub wide_by : (k a b : ℤ) → pos 0 <ℤ k → (k *ℤ a) <ℤ (k *ℤ b) → pos 0 <ℤ (b -ℤ a)
 wide_by k a b hk h = omega (arith, lin, cancel_lt k a b (omega (arith, lin)) h)

@@ -8,13 +8,13 @@ use Rattle.plane.specs.declared.segment.Segment.{Segment}
 use Rattle.plane.specs.Spots.{Spot, right_of, above_of, LeftOf}
 use Rattle.faces.specs.Heights.{across, higher_right, higher_left}
 use Rattle.faces.proofs.Leads.{times_zero, leads_same}
-use Rattle.faces.proofs.Gaps.{tall, rest, gap, lean, tallE, gapE, Wide, Spans, BelowRight, BelowLeft, higher_right_tells, higher_left_tells}
+use Rattle.faces.proofs.Gaps.{tall, rest, gap, lean, tall_e, gap_e, Wide, Spans, BelowRight, BelowLeft, higher_right_tells, higher_left_tells}
 
 pub gap_move : (s t : Spot) (l m : Segment) → s.k *ℤ gap t l m ≡ t.k *ℤ gap s l m +ℤ right_of t s *ℤ lean l m
 gap_move s t l m =
     ring (l.low.x ∷ l.low.y ∷ l.high.x ∷ l.high.y ∷ m.low.x ∷ m.low.y ∷ m.high.x ∷ m.high.y ∷ s.x ∷ s.k ∷ t.x ∷ t.k ∷ [])
-    (var 9 ⊗ gapE (var 0) (var 1) (var 2) (var 3) (var 4) (var 5) (var 6) (var 7) (var 10) (var 11))
-    (var 11 ⊗ gapE (var 0) (var 1) (var 2) (var 3) (var 4) (var 5) (var 6) (var 7) (var 8) (var 9) ⊕ (var 10 ⊗ var 9 ⊖ var 8 ⊗ var 11) ⊗ ((var 3 ⊖ var 1) ⊗ (var 6 ⊖ var 4) ⊖ (var 7 ⊖ var 5) ⊗ (var 2 ⊖ var 0))) refl
+    (var 9 ⊗ gap_e (var 0) (var 1) (var 2) (var 3) (var 4) (var 5) (var 6) (var 7) (var 10) (var 11))
+    (var 11 ⊗ gap_e (var 0) (var 1) (var 2) (var 3) (var 4) (var 5) (var 6) (var 7) (var 8) (var 9) ⊕ (var 10 ⊗ var 9 ⊖ var 8 ⊗ var 11) ⊗ ((var 3 ⊖ var 1) ⊗ (var 6 ⊖ var 4) ⊖ (var 7 ⊖ var 5) ⊗ (var 2 ⊖ var 0))) refl
 
 -- from left to right
 chained : (pk qk rk px qx rx : ℤ) → pos 0 <ℤ qk → (rk *ℤ (px *ℤ qk) +ℤ pk *ℤ (qx *ℤ rk)) <ℤ (rk *ℤ (qx *ℤ pk) +ℤ pk *ℤ (rx *ℤ qk)) → (px *ℤ rk) <ℤ (rx *ℤ pk)
@@ -87,8 +87,8 @@ module _ (s t : Spot) (e : SameX s t) where
       lift =
           ring_from (m.low.x ∷ m.low.y ∷ m.high.x ∷ m.high.y ∷ s.x ∷ s.y ∷ s.k ∷ t.x ∷ t.y ∷ t.k ∷ [])
           (by (var 3 ⊖ var 1) (var 4 ⊗ var 9) (var 7 ⊗ var 6) ∷ []) (e, tt)
-          (var 6 ⊗ (var 8 ⊗ (var 2 ⊖ var 0) ⊖ tallE (var 0) (var 1) (var 2) (var 3) (var 7) (var 9)))
-          (var 9 ⊗ (var 5 ⊗ (var 2 ⊖ var 0) ⊖ tallE (var 0) (var 1) (var 2) (var 3) (var 4) (var 6)) ⊕ (var 2 ⊖ var 0) ⊗ (var 8 ⊗ var 6 ⊖ var 5 ⊗ var 9)) refl
+          (var 6 ⊗ (var 8 ⊗ (var 2 ⊖ var 0) ⊖ tall_e (var 0) (var 1) (var 2) (var 3) (var 7) (var 9)))
+          (var 9 ⊗ (var 5 ⊗ (var 2 ⊖ var 0) ⊖ tall_e (var 0) (var 1) (var 2) (var 3) (var 4) (var 6)) ⊕ (var 2 ⊖ var 0) ⊗ (var 8 ⊗ var 6 ⊖ var 5 ⊗ var 9)) refl
 
 -- m not above n, and n not above s: m not above s
 pub not_over : (s : Spot) (m n : Segment) → Wide m → Wide n → gap s m n ≤ℤ pos 0 → pos 0 ≤ℤ rest s n → pos 0 ≤ℤ rest s m

@@ -13,7 +13,7 @@ use Rattle.plane.specs.Points.{orientation, scaled}
 use Rattle.plane.specs.Spots.{Spot, whole, LeftOf, right_of, OnSegment, EndOf, Touches}
 use Rattle.plane.specs.Meeting.{crossing, inside}
 use Rattle.plane.proofs.Points.{xs_of, ys_of}
-use Rattle.plane.proofs.Pairs.{Hits, Shared, turnE, turnX, xE, yE}
+use Rattle.plane.proofs.Pairs.{Hits, Shared, turn_e, turn_x, x_e, y_e}
 use Rattle.plane.proofs.Sharing.{mean, hits_mean, along_by, upright}
 use Rattle.plane.proofs.Tests.{through_in'}
 use Rattle.plane.proofs.Any.{any_touch_test}
@@ -26,7 +26,7 @@ use Rattle.reading.proofs.Scales.{both, first, second, both_fine, first_stands, 
 use Rattle.faces.specs.Heights.{across}
 use Rattle.faces.specs.Below.{is_below_right}
 use Rattle.faces.proofs.Leads.{times_zero, one_mul, not_less}
-use Rattle.faces.proofs.Gaps.{tall, rest, gap, lean, tallE, gapE, Spans, BelowRight, wide_by, right_tells}
+use Rattle.faces.proofs.Gaps.{tall, rest, gap, lean, tall_e, gap_e, Spans, BelowRight, wide_by, right_tells}
 use Rattle.faces.proofs.Moves.{gap_move, SameX, spans_moved}
 
 -- a spot s = S / K over the segment, in the scale K
@@ -35,8 +35,8 @@ rest_at K S s l h =
     ring_from (l.low.x ∷ l.low.y ∷ l.high.x ∷ l.high.y ∷ s.x ∷ s.y ∷ s.k ∷ K ∷ S.x ∷ S.y ∷ [])
     (by (var 7 ⊗ (var 1 ⊖ var 3)) (var 6 ⊗ var 8) (var 7 ⊗ var 4) ∷ by (var 7 ⊗ (var 2 ⊖ var 0)) (var 6 ⊗ var 9) (var 7 ⊗ var 5) ∷ [])
     (xs_of h, (ys_of h, tt))
-    (var 6 ⊗ turnX (var 7 ⊗ var 0) (var 7 ⊗ var 1) (var 7 ⊗ var 2) (var 7 ⊗ var 3) (var 8) (var 9))
-    (var 7 ⊗ var 7 ⊗ (var 5 ⊗ (var 2 ⊖ var 0) ⊖ tallE (var 0) (var 1) (var 2) (var 3) (var 4) (var 6))) refl
+    (var 6 ⊗ turn_x (var 7 ⊗ var 0) (var 7 ⊗ var 1) (var 7 ⊗ var 2) (var 7 ⊗ var 3) (var 8) (var 9))
+    (var 7 ⊗ var 7 ⊗ (var 5 ⊗ (var 2 ⊖ var 0) ⊖ tall_e (var 0) (var 1) (var 2) (var 3) (var 4) (var 6))) refl
 
 span_at : (K : ℤ) (S : Point) (s : Spot) (l : Segment) → pos 0 <ℤ K → Stands s K S → Spans s l → ((K *ℤ l.low.x) ≤ℤ S.x) × (S.x ≤ℤ (K *ℤ l.high.x))
 span_at K S s l hK h o = (
@@ -89,13 +89,13 @@ module _ (ls : List Segment) (o : Planar ls) (l m : Segment) (i : l ∈ ls) (j :
     on_l : rest at l ≡ pos 0
     on_l =
         ring (l.low.x ∷ l.low.y ∷ l.high.x ∷ l.high.y ∷ s.x ∷ s.k ∷ [])
-        (tallE (var 0) (var 1) (var 2) (var 3) (var 4) (var 5) ⊗ (var 2 ⊖ var 0) ⊖ tallE (var 0) (var 1) (var 2) (var 3) (var 4 ⊗ (var 2 ⊖ var 0)) (var 5 ⊗ (var 2 ⊖ var 0))) nought refl
+        (tall_e (var 0) (var 1) (var 2) (var 3) (var 4) (var 5) ⊗ (var 2 ⊖ var 0) ⊖ tall_e (var 0) (var 1) (var 2) (var 3) (var 4 ⊗ (var 2 ⊖ var 0)) (var 5 ⊗ (var 2 ⊖ var 0))) nought refl
 
     on_m : rest at m ≡ pos 0
     on_m =
         ring (l.low.x ∷ l.low.y ∷ l.high.x ∷ l.high.y ∷ m.low.x ∷ m.low.y ∷ m.high.x ∷ m.high.y ∷ s.x ∷ s.k ∷ [])
-        (tallE (var 0) (var 1) (var 2) (var 3) (var 8) (var 9) ⊗ (var 6 ⊖ var 4) ⊖ tallE (var 4) (var 5) (var 6) (var 7) (var 8 ⊗ (var 2 ⊖ var 0)) (var 9 ⊗ (var 2 ⊖ var 0)))
-        (gapE (var 0) (var 1) (var 2) (var 3) (var 4) (var 5) (var 6) (var 7) (var 8) (var 9)) refl
+        (tall_e (var 0) (var 1) (var 2) (var 3) (var 8) (var 9) ⊗ (var 6 ⊖ var 4) ⊖ tall_e (var 4) (var 5) (var 6) (var 7) (var 8 ⊗ (var 2 ⊖ var 0)) (var 9 ⊗ (var 2 ⊖ var 0)))
+        (gap_e (var 0) (var 1) (var 2) (var 3) (var 4) (var 5) (var 6) (var 7) (var 8) (var 9)) refl
         ∙ e
 
     not_end : (a : ℤ) → ¬ (s.k *ℤ a ≡ s.x) → ¬ ((s.x *ℤ across l) *ℤ pos 1 ≡ a *ℤ (s.k *ℤ across l))
@@ -120,7 +120,7 @@ module _ (ls : List Segment) (o : Planar ls) (l m : Segment) (i : l ∈ ls) (j :
   coords = l.low.x ∷ l.low.y ∷ l.high.x ∷ l.high.y ∷ m.low.x ∷ m.low.y ∷ m.high.x ∷ m.high.y ∷ []
 
   abbrev gap_at : Ex → Ex
-  gap_at x = gapE (var 0) (var 1) (var 2) (var 3) (var 4) (var 5) (var 6) (var 7) x (con (pos 1))
+  gap_at x = gap_e (var 0) (var 1) (var 2) (var 3) (var 4) (var 5) (var 6) (var 7) x (con (pos 1))
 
   pub no_crossing : pos 0 <ℤ gap p l m → gap q l m <ℤ pos 0 → ⊥
   no_crossing hp hq =
@@ -147,16 +147,16 @@ module _ (ls : List Segment) (o : Planar ls) (l m : Segment) (i : l ∈ ls) (j :
       from_q v h = later q.k (gap q l m) (gap (whole v) l m) (right_of (whole v) q) (lean l m) q.fine (gap_move q (whole v) l m) (omega (arith, lin, mul_comm v.x q.k, mul_one q.x)) falls hq
 
       low_over : pos 0 <ℤ orientation m.low m.high l.low
-      low_over = cancel_pos (across l) (orientation m.low m.high l.low) (omega (arith, lin, pl.wide)) (subst (λ z. pos 0 <ℤ z) (ring coords (gap_at (var 0)) ((var 2 ⊖ var 0) ⊗ turnE 2 3 0) refl) (upto_p l.low pl.after_low))
+      low_over = cancel_pos (across l) (orientation m.low m.high l.low) (omega (arith, lin, pl.wide)) (subst (λ z. pos 0 <ℤ z) (ring coords (gap_at (var 0)) ((var 2 ⊖ var 0) ⊗ turn_e 2 3 0) refl) (upto_p l.low pl.after_low))
 
       high_under : orientation m.low m.high l.high <ℤ pos 0
-      high_under = cancel_neg (across l) (orientation m.low m.high l.high) (omega (arith, lin, pl.wide)) (subst (λ z. z <ℤ pos 0) (ring coords (gap_at (var 2)) ((var 2 ⊖ var 0) ⊗ turnE 2 3 1) refl) (from_q l.high ql.before_high))
+      high_under = cancel_neg (across l) (orientation m.low m.high l.high) (omega (arith, lin, pl.wide)) (subst (λ z. z <ℤ pos 0) (ring coords (gap_at (var 2)) ((var 2 ⊖ var 0) ⊗ turn_e 2 3 1) refl) (from_q l.high ql.before_high))
 
       low_under : orientation l.low l.high m.low <ℤ pos 0
-      low_under = cancel_neg (across m) (orientation l.low l.high m.low) (omega (arith, lin, pm.wide)) (omega (arith, lin, upto_p m.low pm.after_low, ring coords (gap_at (var 4)) (neg ((var 6 ⊖ var 4) ⊗ turnE 0 1 2)) refl))
+      low_under = cancel_neg (across m) (orientation l.low l.high m.low) (omega (arith, lin, pm.wide)) (omega (arith, lin, upto_p m.low pm.after_low, ring coords (gap_at (var 4)) (neg ((var 6 ⊖ var 4) ⊗ turn_e 0 1 2)) refl))
 
       high_over : pos 0 <ℤ orientation l.low l.high m.high
-      high_over = cancel_pos (across m) (orientation l.low l.high m.high) (omega (arith, lin, pm.wide)) (omega (arith, lin, from_q m.high qm.before_high, ring coords (gap_at (var 6)) (neg ((var 6 ⊖ var 4) ⊗ turnE 0 1 3)) refl))
+      high_over = cancel_pos (across m) (orientation l.low l.high m.high) (omega (arith, lin, pm.wide)) (omega (arith, lin, from_q m.high qm.before_high, ring coords (gap_at (var 6)) (neg ((var 6 ⊖ var 4) ⊗ turn_e 0 1 3)) refl))
 
 -- a leg from p, on or above the segment, to q, below it, neither beyond an end of it
 shared_down : (a b p q : Point) → a.x <ℤ b.x → (a.x ≤ℤ p.x) × (p.x ≤ℤ b.x) → (a.x ≤ℤ q.x) × (q.x ≤ℤ b.x) → pos 0 ≤ℤ orientation a b p → orientation a b q <ℤ pos 0 → Shared a b p q
@@ -187,13 +187,13 @@ shared_down a b p q w hp hq over under =
     level : orientation (scaled (m +ℤ n) a) (scaled (m +ℤ n) b) (mean m p n q) ≡ pos 0
     level =
         ring (a.x ∷ a.y ∷ b.x ∷ b.y ∷ p.x ∷ p.y ∷ q.x ∷ q.y ∷ [])
-        (turnX ((M ⊕ N) ⊗ xE 0) ((M ⊕ N) ⊗ yE 0) ((M ⊕ N) ⊗ xE 1) ((M ⊕ N) ⊗ yE 1) (M ⊗ xE 2 ⊕ N ⊗ xE 3) (M ⊗ yE 2 ⊕ N ⊗ yE 3)) nought refl
+        (turn_x ((M ⊕ N) ⊗ x_e 0) ((M ⊕ N) ⊗ y_e 0) ((M ⊕ N) ⊗ x_e 1) ((M ⊕ N) ⊗ y_e 1) (M ⊗ x_e 2 ⊕ N ⊗ x_e 3) (M ⊗ y_e 2 ⊕ N ⊗ y_e 3)) nought refl
       where
         M : Ex
-        M = neg (turnE 0 1 3)
+        M = neg (turn_e 0 1 3)
 
         N : Ex
-        N = turnE 0 1 2
+        N = turn_e 0 1 2
 
 module _ (p q : Spot) (l : Segment) (pl : Spans p l) (ql : Spans q l) (clear : ¬ Touches p q l) where
   abbrev K : ℤ

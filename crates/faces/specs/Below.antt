@@ -4,16 +4,16 @@ use Rattle.std.specs.List.{best_of}
 use Rattle.algebra.specs.Parity.{odd}
 use Rattle.plane.specs.declared.segment.Segment.{Segment}
 use Rattle.plane.specs.Spots.{Spot}
-use Rattle.faces.specs.Heights.{leQ, vertical, height, level, higher_right, higher_left}
+use Rattle.faces.specs.Heights.{ratio_le, vertical, height, level, higher_right, higher_left}
 
 -- a segment that spans a little to the right (left) of the spot, with the spot on or above it
 abbrev pub is_below_right : Spot → Segment → Bool
 is_below_right s l =
-    not (vertical l) && (int_le (s.k *ℤ l.low.x) s.x && (int_lt s.x (s.k *ℤ l.high.x) && leQ (height l s) (level s)))
+    not (vertical l) && (int_le (s.k *ℤ l.low.x) s.x && (int_lt s.x (s.k *ℤ l.high.x) && ratio_le (height l s) (level s)))
 
 abbrev pub is_below_left : Spot → Segment → Bool
 is_below_left s l =
-    not (vertical l) && (int_lt (s.k *ℤ l.low.x) s.x && (int_le s.x (s.k *ℤ l.high.x) && leQ (height l s) (level s)))
+    not (vertical l) && (int_lt (s.k *ℤ l.low.x) s.x && (int_le s.x (s.k *ℤ l.high.x) && ratio_le (height l s) (level s)))
 
 abbrev pub all_below_right : List Segment → Spot → List Segment
 all_below_right ls s = filter (is_below_right s) ls

@@ -9,14 +9,14 @@ pub record Ratio : Type 0 where
   pub over : ℤ
   pub under : ℤ
 
-abbrev pub ltQ : Ratio → Ratio → Bool
-ltQ p q = int_lt (p.over *ℤ q.under) (q.over *ℤ p.under)
+abbrev pub ratio_lt : Ratio → Ratio → Bool
+ratio_lt p q = int_lt (p.over *ℤ q.under) (q.over *ℤ p.under)
 
-abbrev pub leQ : Ratio → Ratio → Bool
-leQ p q = int_le (p.over *ℤ q.under) (q.over *ℤ p.under)
+abbrev pub ratio_le : Ratio → Ratio → Bool
+ratio_le p q = int_le (p.over *ℤ q.under) (q.over *ℤ p.under)
 
-abbrev pub eqQ : Ratio → Ratio → Bool
-eqQ p q = eq_int (p.over *ℤ q.under) (q.over *ℤ p.under)
+abbrev pub ratio_eq : Ratio → Ratio → Bool
+ratio_eq p q = eq_int (p.over *ℤ q.under) (q.over *ℤ p.under)
 
 abbrev pub vertical : Segment → Bool
 vertical l = eq_int l.low.x l.high.x
@@ -40,7 +40,7 @@ level s = record { over = s.y; under = s.k }
 
 -- l is higher than m just right (left) of the spot: by height, then by slope
 abbrev pub higher_right : Spot → Segment → Segment → Bool
-higher_right s l m = ltQ (height m s) (height l s) || (eqQ (height m s) (height l s) && ltQ (slope m) (slope l))
+higher_right s l m = ratio_lt (height m s) (height l s) || (ratio_eq (height m s) (height l s) && ratio_lt (slope m) (slope l))
 
 abbrev pub higher_left : Spot → Segment → Segment → Bool
-higher_left s l m = ltQ (height m s) (height l s) || (eqQ (height m s) (height l s) && ltQ (slope l) (slope m))
+higher_left s l m = ratio_lt (height m s) (height l s) || (ratio_eq (height m s) (height l s) && ratio_lt (slope l) (slope m))

@@ -10,7 +10,7 @@ use Rattle.plane.specs.declared.point.Point.{Point}
 use Rattle.plane.specs.Points.{orientation, scaled}
 use Rattle.plane.specs.Meeting.{opposite}
 use Rattle.plane.proofs.Points.{Before, points_equal, xs_of, ys_of, Lex, first, last, one, lex}
-use Rattle.plane.proofs.Pairs.{Between, Hits, Shared, IsEnd, Clean, straddles, clear_of, ranges_meet, touches, crosses, turnE, turnX, xE, yE}
+use Rattle.plane.proofs.Pairs.{Between, Hits, Shared, IsEnd, Clean, straddles, clear_of, ranges_meet, touches, crosses, turn_e, turn_x, x_e, y_e}
 use Rattle.plane.proofs.Sharing.{leg_back, segment_back, hits_start, hits_whole, upright}
 use Rattle.plane.proofs.Tests.{ranges_sorted, touch_test, touch_from, cross_test, cross_to}
 
@@ -64,7 +64,7 @@ ranges_swap : (u v w z : ℤ) → ranges_meet u v w z ≡ ranges_meet u v z w
 ranges_swap u v w z = grind (arith, lin)
 
 pub orientation_back : (p q a : Point) → orientation p q a ≡ neg_ℤ (orientation q p a)
-orientation_back p q a = ring (p.x ∷ p.y ∷ q.x ∷ q.y ∷ a.x ∷ a.y ∷ []) (turnE 0 1 2) (neg (turnE 1 0 2)) refl
+orientation_back p q a = ring (p.x ∷ p.y ∷ q.x ∷ q.y ∷ a.x ∷ a.y ∷ []) (turn_e 0 1 2) (neg (turn_e 1 0 2)) refl
 
 pub touches_back : (a b p q : Point) → touches a b p q ≡ touches a b q p
 touches_back a b p q =
@@ -178,7 +178,7 @@ zeroth k = ring (k ∷ []) nought (var 0 ⊗ nought) refl
 -- orientations in the scale k, against 0
 pub orientation_scaled : (k : ℤ) (a b c : Point) → orientation (scaled k a) (scaled k b) (scaled k c) ≡ (k *ℤ k) *ℤ orientation a b c
 orientation_scaled k a b c =
-    ring (a.x ∷ a.y ∷ b.x ∷ b.y ∷ c.x ∷ c.y ∷ k ∷ []) (turnX (var 6 ⊗ xE 0) (var 6 ⊗ yE 0) (var 6 ⊗ xE 1) (var 6 ⊗ yE 1) (var 6 ⊗ xE 2) (var 6 ⊗ yE 2)) (var 6 ⊗ var 6 ⊗ turnE 0 1 2) refl
+    ring (a.x ∷ a.y ∷ b.x ∷ b.y ∷ c.x ∷ c.y ∷ k ∷ []) (turn_x (var 6 ⊗ x_e 0) (var 6 ⊗ y_e 0) (var 6 ⊗ x_e 1) (var 6 ⊗ y_e 1) (var 6 ⊗ x_e 2) (var 6 ⊗ y_e 2)) (var 6 ⊗ var 6 ⊗ turn_e 0 1 2) refl
 
 module _ (k : ℤ) (h : pos 0 <ℤ k) where
   hh : pos 0 <ℤ (k *ℤ k)

@@ -64,18 +64,18 @@ abbrev pub crosses : Point → Point → Point → Point → Bool
 crosses a b p q = opposite (orientation p q a) (orientation p q b) && opposite (orientation a b p) (orientation a b q)
 
 -- for `ring`: the point number n has the variables 2n and 2n + 1
-abbrev pub xE : ℕ → Ex
-xE n = var (2 * n)
+abbrev pub x_e : ℕ → Ex
+x_e n = var (2 * n)
 
-abbrev pub yE : ℕ → Ex
-yE n = var (2 * n + 1)
+abbrev pub y_e : ℕ → Ex
+y_e n = var (2 * n + 1)
 
 -- the orientation of three points whose coordinates are expressions
-abbrev pub turnX : (ax ay bx by cx cy : Ex) → Ex
-turnX ax ay bx by cx cy = (ax ⊖ cx) ⊗ (by ⊖ cy) ⊖ (bx ⊖ cx) ⊗ (ay ⊖ cy)
+abbrev pub turn_x : (ax ay bx by cx cy : Ex) → Ex
+turn_x ax ay bx by cx cy = (ax ⊖ cx) ⊗ (by ⊖ cy) ⊖ (bx ⊖ cx) ⊗ (ay ⊖ cy)
 
-abbrev pub turnE : ℕ → ℕ → ℕ → Ex
-turnE a b c = turnX (xE a) (yE a) (xE b) (yE b) (xE c) (yE c)
+abbrev pub turn_e : ℕ → ℕ → ℕ → Ex
+turn_e a b c = turn_x (x_e a) (y_e a) (x_e b) (y_e b) (x_e c) (y_e c)
 
 -- a is 0, b is 1, p is 2, q is 3
 abbrev pub coords : Point → Point → Point → Point → List ℤ
@@ -83,13 +83,13 @@ coords a b p q = a.x ∷ a.y ∷ b.x ∷ b.y ∷ p.x ∷ p.y ∷ q.x ∷ q.y ∷
 
 -- the heights of a and b over the leg, and those of p and q over the segment
 abbrev pub A' : Ex
-A' = turnE 2 3 0
+A' = turn_e 2 3 0
 
 abbrev pub B' : Ex
-B' = turnE 2 3 1
+B' = turn_e 2 3 1
 
 abbrev pub P' : Ex
-P' = turnE 0 1 2
+P' = turn_e 0 1 2
 
 abbrev pub Q' : Ex
-Q' = turnE 0 1 3
+Q' = turn_e 0 1 3

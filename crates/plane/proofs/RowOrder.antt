@@ -16,20 +16,20 @@ use Rattle.plane.proofs.Points.{Before, Lex, first, last, one, lex, points_equal
 abbrev cross : ℤ → ℤ → ℤ → ℤ → ℤ
 cross px py qx qy = px *ℤ qy -ℤ qx *ℤ py
 
-abbrev crossE : Ex → Ex → Ex → Ex → Ex
-crossE px py qx qy = px ⊗ qy ⊖ qx ⊗ py
+abbrev cross_e : Ex → Ex → Ex → Ex → Ex
+cross_e px py qx qy = px ⊗ qy ⊖ qx ⊗ py
 
 abbrev size : ℤ → ℤ → ℤ
 size x y = x *ℤ x +ℤ y *ℤ y
 
-abbrev sizeE : Ex → Ex → Ex
-sizeE x y = x ⊗ x ⊕ y ⊗ y
+abbrev size_e : Ex → Ex → Ex
+size_e x y = x ⊗ x ⊕ y ⊗ y
 
 abbrev along : ℤ → ℤ → ℤ → ℤ → ℤ
 along m k x y = m *ℤ x +ℤ k *ℤ y
 
-abbrev alongE : Ex → Ex → Ex → Ex → Ex
-alongE m k x y = m ⊗ x ⊕ k ⊗ y
+abbrev along_e : Ex → Ex → Ex → Ex → Ex
+along_e m k x y = m ⊗ x ⊕ k ⊗ y
 
 -- a vector is ahead if it leads to a later point; then N x + y is positive for N greater than −y
 abbrev Ahead : ℤ → ℤ → Type 0
@@ -103,8 +103,8 @@ swept_transitive : (px py qx qy rx ry : ℤ) → OneSide px py qx qy rx ry → S
 swept_transitive px py qx qy rx ry o =
     swept_chain (along o.m o.k px py) (along o.m o.k qx qy) (along o.m o.k rx ry) (cross px py qx qy) (cross qx qy rx ry) (cross px py rx ry)
     (size px py) (size qx qy) (size rx ry) o.at_p o.at_q o.at_r
-    (ring (px ∷ py ∷ qx ∷ qy ∷ rx ∷ ry ∷ o.m ∷ o.k ∷ []) (alongE (var 6) (var 7) (var 2) (var 3) ⊗ crossE (var 0) (var 1) (var 4) (var 5))
-    (alongE (var 6) (var 7) (var 4) (var 5) ⊗ crossE (var 0) (var 1) (var 2) (var 3) ⊕ alongE (var 6) (var 7) (var 0) (var 1) ⊗ crossE (var 2) (var 3) (var 4) (var 5)) refl)
+    (ring (px ∷ py ∷ qx ∷ qy ∷ rx ∷ ry ∷ o.m ∷ o.k ∷ []) (along_e (var 6) (var 7) (var 2) (var 3) ⊗ cross_e (var 0) (var 1) (var 4) (var 5))
+    (along_e (var 6) (var 7) (var 4) (var 5) ⊗ cross_e (var 0) (var 1) (var 2) (var 3) ⊕ along_e (var 6) (var 7) (var 0) (var 1) ⊗ cross_e (var 2) (var 3) (var 4) (var 5)) refl)
 
 -- only the vector 0 has the size 0
 size_zero : (x y : ℤ) → size x y ≡ pos 0 → (x ≡ pos 0) × (y ≡ pos 0)
@@ -125,7 +125,7 @@ one_vector px py qx qy o c e = (omega (arith, lin, gone.0), omega (arith, lin, g
     opposed : (px +ℤ qx ≡ pos 0) × (py +ℤ qy ≡ pos 0) → along o.m o.k px py +ℤ along o.m o.k qx qy ≡ pos 0
     opposed z =
         ring_from (px ∷ py ∷ qx ∷ qy ∷ o.m ∷ o.k ∷ []) (by (var 4) (var 0 ⊕ var 2) nought ∷ by (var 5) (var 1 ⊕ var 3) nought ∷ []) (z.0, (z.1, tt))
-        (alongE (var 4) (var 5) (var 0) (var 1) ⊕ alongE (var 4) (var 5) (var 2) (var 3)) nought refl
+        (along_e (var 4) (var 5) (var 0) (var 1) ⊕ along_e (var 4) (var 5) (var 2) (var 3)) nought refl
 
     some : Tri sum → pos 0 <ℤ sum
     some (below h) = absurd (omega (arith, lin, square (px +ℤ qx), square (py +ℤ qy)))
@@ -135,8 +135,8 @@ one_vector px py qx qy o c e = (omega (arith, lin, gone.0), omega (arith, lin, g
     product : sum *ℤ size (px -ℤ qx) (py -ℤ qy) ≡ pos 0
     product =
         ring_from (px ∷ py ∷ qx ∷ qy ∷ [])
-        (by (con (pos 4) ⊗ crossE (var 0) (var 1) (var 2) (var 3)) (crossE (var 0) (var 1) (var 2) (var 3)) nought ∷ by (sizeE (var 0) (var 1) ⊖ sizeE (var 2) (var 3)) (sizeE (var 0) (var 1)) (sizeE (var 2) (var 3)) ∷ []) (c, (e, tt))
-        (sizeE (var 0 ⊕ var 2) (var 1 ⊕ var 3) ⊗ sizeE (var 0 ⊖ var 2) (var 1 ⊖ var 3)) nought refl
+        (by (con (pos 4) ⊗ cross_e (var 0) (var 1) (var 2) (var 3)) (cross_e (var 0) (var 1) (var 2) (var 3)) nought ∷ by (size_e (var 0) (var 1) ⊖ size_e (var 2) (var 3)) (size_e (var 0) (var 1)) (size_e (var 2) (var 3)) ∷ []) (c, (e, tt))
+        (size_e (var 0 ⊕ var 2) (var 1 ⊕ var 3) ⊗ size_e (var 0 ⊖ var 2) (var 1 ⊖ var 3)) nought refl
 
     gone : (px -ℤ qx ≡ pos 0) × (py -ℤ qy ≡ pos 0)
     gone = size_zero (px -ℤ qx) (py -ℤ qy) (cancel_zero sum (size (px -ℤ qx) (py -ℤ qy)) (some (tri sum)) product)
@@ -145,7 +145,7 @@ swept_comparable : (px py qx qy : ℤ) → OneSide px py qx qy qx qy → ((px �
 swept_comparable px py qx qy o = go (tri (cross px py qx qy)) (order (size px py) (size qx qy))
   where
     back : cross qx qy px py ≡ neg_ℤ (cross px py qx qy)
-    back = ring (px ∷ py ∷ qx ∷ qy ∷ []) (crossE (var 2) (var 3) (var 0) (var 1)) (neg (crossE (var 0) (var 1) (var 2) (var 3))) refl
+    back = ring (px ∷ py ∷ qx ∷ qy ∷ []) (cross_e (var 2) (var 3) (var 0) (var 1)) (neg (cross_e (var 0) (var 1) (var 2) (var 3))) refl
 
     go : Tri (cross px py qx qy) → (size px py <ℤ size qx qy) ⊎ ((size px py ≡ size qx qy) ⊎ (size qx qy <ℤ size px py)) → ((px ≡ qx) × (py ≡ qy)) ⊎ (Swept (cross px py qx qy) (size px py) (size qx qy) ⊎ Swept (cross qx qy px py) (size qx qy) (size px py))
     go (below h) s = inr (inr (inl (omega (arith, lin, back))))
@@ -245,7 +245,7 @@ earlier_comparable g h lg lh n u =
     go (inr (inr s)) = inr (sweeps_back h g (sym u) s)
 
 earlier_self : (h : Halfsegment) → earlier h h ≡ false
-earlier_self h = go (left h) (swept_first h h) (still (orientation h.far h.far h.dominating) (reach h) (ring (across h ∷ rise h ∷ []) (crossE (var 0) (var 1) (var 0) (var 1)) nought refl))
+earlier_self h = go (left h) (swept_first h h) (still (orientation h.far h.far h.dominating) (reach h) (ring (across h ∷ rise h ∷ []) (cross_e (var 0) (var 1) (var 0) (var 1)) nought refl))
   where
     still : (c a : ℤ) → c ≡ pos 0 → (lt_z (pos 0) c || (eq_int c (pos 0) && lt_z a a)) ≡ false
     still c a e = grind (arith, lin)

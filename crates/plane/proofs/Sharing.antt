@@ -6,11 +6,11 @@ use Rattle.algebra.proofs.Ring.{ring, ring_from}
 use Rattle.algebra.proofs.Signs.{lin, split, cancel_zero, cancel_le, mean_le, mean_ge}
 use Rattle.plane.specs.declared.point.Point.{Point}
 use Rattle.plane.specs.Points.{orientation, scaled}
-use Rattle.plane.proofs.Pairs.{Between, Hits, Shared, SharedEnd, turnE, turnX, xE, yE, coords, A', B', P', Q'}
+use Rattle.plane.proofs.Pairs.{Between, Hits, Shared, SharedEnd, turn_e, turn_x, x_e, y_e, coords, A', B', P', Q'}
 use Rattle.plane.proofs.Cuts.{Quad, Cut}
 
 abbrev pub way : ℕ → ℕ → Ex
-way n m = xE n ⊖ xE m
+way n m = x_e n ⊖ x_e m
 
 -- the leg falls towards the segment as much as the segment rises towards the leg
 pub fall_leg : (a b p q : Point) → orientation a b p ≡ orientation a b q +ℤ (orientation a b p -ℤ orientation a b q)
@@ -49,7 +49,7 @@ mean_between m n u v h k = go (split u v)
 pub hits_mean : (u v : Point) (m n : ℤ) → pos 0 ≤ℤ m → pos 0 ≤ℤ n → Hits (m +ℤ n) (mean m u n v) u v
 hits_mean u v m n h k =
     record {
-      straight = ring (u.x ∷ u.y ∷ v.x ∷ v.y ∷ m ∷ n ∷ []) (turnX ((var 4 ⊕ var 5) ⊗ var 0) ((var 4 ⊕ var 5) ⊗ var 1) ((var 4 ⊕ var 5) ⊗ var 2) ((var 4 ⊕ var 5) ⊗ var 3) (var 4 ⊗ var 0 ⊕ var 5 ⊗ var 2) (var 4 ⊗ var 1 ⊕ var 5 ⊗ var 3)) nought refl;
+      straight = ring (u.x ∷ u.y ∷ v.x ∷ v.y ∷ m ∷ n ∷ []) (turn_x ((var 4 ⊕ var 5) ⊗ var 0) ((var 4 ⊕ var 5) ⊗ var 1) ((var 4 ⊕ var 5) ⊗ var 2) ((var 4 ⊕ var 5) ⊗ var 3) (var 4 ⊗ var 0 ⊕ var 5 ⊗ var 2) (var 4 ⊗ var 1 ⊕ var 5 ⊗ var 3)) nought refl;
       across = mean_between m n u.x v.x h k;
       along = mean_between m n u.y v.y h k;
     }
@@ -61,7 +61,7 @@ swapped u v w (inr h) = inl h
 pub hits_back : (k : ℤ) (s u v : Point) → Hits k s u v → Hits k s v u
 hits_back k s u v o =
     record {
-      straight = ring_from (u.x ∷ u.y ∷ v.x ∷ v.y ∷ k ∷ s.x ∷ s.y ∷ []) (by minus_unit (turnX (var 4 ⊗ var 0) (var 4 ⊗ var 1) (var 4 ⊗ var 2) (var 4 ⊗ var 3) (var 5) (var 6)) nought ∷ []) (o.straight, tt) (turnX (var 4 ⊗ var 2) (var 4 ⊗ var 3) (var 4 ⊗ var 0) (var 4 ⊗ var 1) (var 5) (var 6)) nought refl;
+      straight = ring_from (u.x ∷ u.y ∷ v.x ∷ v.y ∷ k ∷ s.x ∷ s.y ∷ []) (by minus_unit (turn_x (var 4 ⊗ var 0) (var 4 ⊗ var 1) (var 4 ⊗ var 2) (var 4 ⊗ var 3) (var 5) (var 6)) nought ∷ []) (o.straight, tt) (turn_x (var 4 ⊗ var 2) (var 4 ⊗ var 3) (var 4 ⊗ var 0) (var 4 ⊗ var 1) (var 5) (var 6)) nought refl;
       across = swapped (k *ℤ u.x) (k *ℤ v.x) s.x o.across;
       along = swapped (k *ℤ u.y) (k *ℤ v.y) s.y o.along;
     }
@@ -84,7 +84,7 @@ shared_cut a b p q c =
 
     same_mean : mean (neg_ℤ (orientation a b q)) p (orientation a b p) q ≡ mean (orientation p q b) a (neg_ℤ (orientation p q a)) b
     same_mean i =
-        record { x = ring (coords a b p q) (neg Q' ⊗ xE 2 ⊕ P' ⊗ xE 3) (B' ⊗ xE 0 ⊕ neg A' ⊗ xE 1) refl i; y = ring (coords a b p q) (neg Q' ⊗ yE 2 ⊕ P' ⊗ yE 3) (B' ⊗ yE 0 ⊕ neg A' ⊗ yE 1) refl i }
+        record { x = ring (coords a b p q) (neg Q' ⊗ x_e 2 ⊕ P' ⊗ x_e 3) (B' ⊗ x_e 0 ⊕ neg A' ⊗ x_e 1) refl i; y = ring (coords a b p q) (neg Q' ⊗ y_e 2 ⊕ P' ⊗ y_e 3) (B' ⊗ y_e 0 ⊕ neg A' ⊗ y_e 1) refl i }
 
 -- a segment that is named from its other end
 abbrev pub segment_back : (a b p q : Point) → Shared b a p q → Shared a b p q
@@ -98,7 +98,7 @@ leg_back a b p q s =
 
 pub shared_rise : (a b p q : Point) → Cut (orientation p q b) (orientation p q a) (orientation a b q) (orientation a b p) → Shared a b p q
 shared_rise a b p q c =
-    segment_back a b p q (shared_cut b a p q (subst₂ (λ u v. Cut (orientation p q b) (orientation p q a) u v) (ring (coords a b p q) (neg P') (turnE 1 0 2) refl) (ring (coords a b p q) (neg Q') (turnE 1 0 3) refl) (other (orientation p q a) (orientation p q b) (orientation a b p) (orientation a b q) c)))
+    segment_back a b p q (shared_cut b a p q (subst₂ (λ u v. Cut (orientation p q b) (orientation p q a) u v) (ring (coords a b p q) (neg P') (turn_e 1 0 2) refl) (ring (coords a b p q) (neg Q') (turn_e 1 0 3) refl) (other (orientation p q a) (orientation p q b) (orientation a b p) (orientation a b q) c)))
   where
     other : (A B P Q : ℤ) → Cut B A Q P → Cut B A (neg_ℤ P) (neg_ℤ Q)
     other A B P Q c =
@@ -111,7 +111,7 @@ between_one u v w (inr h) = inr (omega (arith, ints), omega (arith, ints))
 pub hits_whole : (c u v : Point) → orientation u v c ≡ pos 0 → Between u.x v.x c.x → Between u.y v.y c.y → Hits (pos 1) (scaled (pos 1) c) u v
 hits_whole c u v e h k =
     record {
-      straight = ring_from (u.x ∷ u.y ∷ v.x ∷ v.y ∷ c.x ∷ c.y ∷ []) (by unit (turnE 0 1 2) nought ∷ []) (e, tt) (turnX (one ⊗ xE 0) (one ⊗ yE 0) (one ⊗ xE 1) (one ⊗ yE 1) (one ⊗ xE 2) (one ⊗ yE 2)) nought refl;
+      straight = ring_from (u.x ∷ u.y ∷ v.x ∷ v.y ∷ c.x ∷ c.y ∷ []) (by unit (turn_e 0 1 2) nought ∷ []) (e, tt) (turn_x (one ⊗ x_e 0) (one ⊗ y_e 0) (one ⊗ x_e 1) (one ⊗ y_e 1) (one ⊗ x_e 2) (one ⊗ y_e 2)) nought refl;
       across = between_one u.x v.x c.x h;
       along = between_one u.y v.y c.y k;
     }
@@ -127,7 +127,7 @@ at_start u v = go (split u v)
     go (inr h) = inr (omega (arith, lin), omega (arith, lin))
 
 pub hits_start : (u v : Point) → Hits (pos 1) (scaled (pos 1) u) u v
-hits_start u v = hits_whole u u v (ring (u.x ∷ u.y ∷ v.x ∷ v.y ∷ []) (turnE 0 1 0) nought refl) (at_start u.x v.x) (at_start u.y v.y)
+hits_start u v = hits_whole u u v (ring (u.x ∷ u.y ∷ v.x ∷ v.y ∷ []) (turn_e 0 1 0) nought refl) (at_start u.x v.x) (at_start u.y v.y)
 
 pub cancel_between : (d u v w : ℤ) → pos 0 <ℤ d → Between (d *ℤ u) (d *ℤ v) (d *ℤ w) → Between u v w
 cancel_between d u v w h (inl k) = inl (cancel_le d u w h k.0, cancel_le d w v h k.1)
@@ -138,7 +138,7 @@ pub along_by : (c u v : Point) → u.x <ℤ v.x → u.x ≤ℤ c.x → c.x ≤�
 along_by c u v l h k e =
     cancel_between (m +ℤ n) u.y v.y c.y (omega (arith, lin))
     (subst (Between ((m +ℤ n) *ℤ u.y) ((m +ℤ n) *ℤ v.y))
-    (ring_from (u.x ∷ u.y ∷ v.x ∷ v.y ∷ c.x ∷ c.y ∷ []) (by minus_unit (turnE 0 1 2) nought ∷ []) (e, tt) ((xE 1 ⊖ xE 2) ⊗ yE 0 ⊕ (xE 2 ⊖ xE 0) ⊗ yE 1) (((xE 1 ⊖ xE 2) ⊕ (xE 2 ⊖ xE 0)) ⊗ yE 2) refl)
+    (ring_from (u.x ∷ u.y ∷ v.x ∷ v.y ∷ c.x ∷ c.y ∷ []) (by minus_unit (turn_e 0 1 2) nought ∷ []) (e, tt) ((x_e 1 ⊖ x_e 2) ⊗ y_e 0 ⊕ (x_e 2 ⊖ x_e 0) ⊗ y_e 1) (((x_e 1 ⊖ x_e 2) ⊕ (x_e 2 ⊖ x_e 0)) ⊗ y_e 2) refl)
     (mean_between m n u.y v.y (omega (arith, lin)) (omega (arith, lin))))
   where
     m : ℤ
@@ -150,12 +150,12 @@ along_by c u v l h k e =
 pub upright : (a b p : Point) → a.x ≡ p.x → b.x ≡ p.x → orientation a b p ≡ pos 0
 upright a b p e f =
     ring_from (a.x ∷ a.y ∷ b.x ∷ b.y ∷ p.x ∷ p.y ∷ [])
-    (by (yE 1 ⊖ yE 2) (xE 0) (xE 2) ∷ by (yE 2 ⊖ yE 0) (xE 1) (xE 2) ∷ [])
-    (e, (f, tt)) (turnE 0 1 2) nought refl
+    (by (y_e 1 ⊖ y_e 2) (x_e 0) (x_e 2) ∷ by (y_e 2 ⊖ y_e 0) (x_e 1) (x_e 2) ∷ [])
+    (e, (f, tt)) (turn_e 0 1 2) nought refl
 
 pub on_upright : (a b c : Point) → a.x ≡ b.x → a.y <ℤ b.y → orientation a b c ≡ pos 0 → a.x ≡ c.x
 on_upright a b c e l z =
-    let d : a.x -ℤ c.x ≡ pos 0 = cancel_zero (b.y -ℤ a.y) (a.x -ℤ c.x) (omega (arith, lin)) (ring_from (a.x ∷ a.y ∷ b.x ∷ b.y ∷ c.x ∷ c.y ∷ []) (by unit (turnE 0 1 2) nought ∷ by (yE 2 ⊖ yE 0) (xE 0) (xE 1) ∷ []) (z, (e, tt)) ((yE 1 ⊖ yE 0) ⊗ (xE 0 ⊖ xE 2)) nought refl) in
+    let d : a.x -ℤ c.x ≡ pos 0 = cancel_zero (b.y -ℤ a.y) (a.x -ℤ c.x) (omega (arith, lin)) (ring_from (a.x ∷ a.y ∷ b.x ∷ b.y ∷ c.x ∷ c.y ∷ []) (by unit (turn_e 0 1 2) nought ∷ by (y_e 2 ⊖ y_e 0) (x_e 0) (x_e 1) ∷ []) (z, (e, tt)) ((y_e 1 ⊖ y_e 0) ⊗ (x_e 0 ⊖ x_e 2)) nought refl) in
     omega (arith, lin)
 
 -- all on one straight line, with ranges that meet: an end of one lies on the other

@@ -9,7 +9,7 @@ use Rattle.plane.specs.declared.segment.Segment.{Segment}
 use Rattle.plane.specs.Points.{eq_int, precedes, orientation, scaled}
 use Rattle.plane.specs.Meeting.{inside}
 use Rattle.plane.proofs.Points.{Before, before_of, of_before, rightward, Lex, first, last, one, lex}
-use Rattle.plane.proofs.Pairs.{Between, Hits, turnX}
+use Rattle.plane.proofs.Pairs.{Between, Hits, turn_x}
 use Rattle.plane.proofs.Sharing.{hits_whole, hits_back, along_by}
 
 -- the order of points in another scale
@@ -27,7 +27,7 @@ beside k s a b o e n = by_numbers (k *ℤ a.x) (k *ℤ a.y) (k *ℤ b.x) (k *ℤ
   where
     by_numbers : (ux uy vx vy sx sy : ℤ) → (ux -ℤ sx) *ℤ (vy -ℤ sy) -ℤ (vx -ℤ sx) *ℤ (uy -ℤ sy) ≡ pos 0 → sx ≡ ux → ¬ (ux ≡ vx) → sy ≡ uy
     by_numbers ux uy vx vy sx sy z e n =
-        let d : uy -ℤ sy ≡ pos 0 = cancel_nonzero (vx -ℤ sx) (uy -ℤ sy) (λ f. n (omega (arith, lin))) (ring_from (ux ∷ uy ∷ vx ∷ vy ∷ sx ∷ sy ∷ []) (by minus_unit (turnX (var 0) (var 1) (var 2) (var 3) (var 4) (var 5)) nought ∷ by (neg (var 3 ⊖ var 5)) (var 4) (var 0) ∷ []) (z, (e, tt)) ((var 2 ⊖ var 4) ⊗ (var 1 ⊖ var 5)) nought refl) in
+        let d : uy -ℤ sy ≡ pos 0 = cancel_nonzero (vx -ℤ sx) (uy -ℤ sy) (λ f. n (omega (arith, lin))) (ring_from (ux ∷ uy ∷ vx ∷ vy ∷ sx ∷ sy ∷ []) (by minus_unit (turn_x (var 0) (var 1) (var 2) (var 3) (var 4) (var 5)) nought ∷ by (neg (var 3 ⊖ var 5)) (var 4) (var 0) ∷ []) (z, (e, tt)) ((var 2 ⊖ var 4) ⊗ (var 1 ⊖ var 5)) nought refl) in
         omega (arith, lin)
 
 -- no point of a segment lies before its lesser end, and none behind its greater

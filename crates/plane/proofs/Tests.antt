@@ -143,11 +143,11 @@ module _ (a b p q : Point) where
   abbrev Q : ℤ
   Q = orientation a b q
 
-  abbrev sA : Bool
-  sA = straddles A B
+  abbrev s_a : Bool
+  s_a = straddles A B
 
-  abbrev sP : Bool
-  sP = straddles P Q
+  abbrev s_p : Bool
+  s_p = straddles P Q
 
   abbrev rx : Bool
   rx = ranges_meet a.x b.x p.x q.x
@@ -158,11 +158,11 @@ module _ (a b p q : Point) where
   touch_to : Before a b → p.x ≤ℤ q.x → touches a b p q ≡ true → Shared a b p q
   touch_to l r e = go (settle A B P Q (P -ℤ Q) (fall_leg a b p q) (fall_segment a b p q) (straddle_out A B s.0) (straddle_out P Q s.1))
     where
-      st : ((sA && sP) ≡ true) × ((rx && ry) ≡ true)
-      st = and_parts (sA && sP) (rx && ry) e
+      st : ((s_a && s_p) ≡ true) × ((rx && ry) ≡ true)
+      st = and_parts (s_a && s_p) (rx && ry) e
 
-      s : (sA ≡ true) × (sP ≡ true)
-      s = and_parts sA sP st.0
+      s : (s_a ≡ true) × (s_p ≡ true)
+      s = and_parts s_a s_p st.0
 
       t : (rx ≡ true) × (ry ≡ true)
       t = and_parts rx ry st.1
@@ -180,8 +180,8 @@ module _ (a b p q : Point) where
   touch_from s =
       let v = weights s.scale s.at a b s.on_segment in
       let w = weights s.scale s.at p q s.on_leg in
-      and_from (sA && sP) (rx && ry)
-      (and_from sA sP (straddle_in A B (mean_straddles v.m v.n A B v.m_some v.n_some v.some (heights s.scale s.at a b p q s.some_scale s.on_leg.straight v)))
+      and_from (s_a && s_p) (rx && ry)
+      (and_from s_a s_p (straddle_in A B (mean_straddles v.m v.n A B v.m_some v.n_some v.some (heights s.scale s.at a b p q s.some_scale s.on_leg.straight v)))
       (straddle_in P Q (mean_straddles w.m w.n P Q w.m_some w.n_some w.some (heights s.scale s.at p q a b s.some_scale s.on_segment.straight w))))
       (and_from rx ry (ranges_in a.x b.x p.x q.x s.scale s.at.x s.some_scale s.on_segment.across s.on_leg.across) (ranges_in a.y b.y p.y q.y s.scale s.at.y s.some_scale s.on_segment.along s.on_leg.along))
 

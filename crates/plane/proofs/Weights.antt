@@ -6,7 +6,7 @@ use Rattle.algebra.proofs.Signs.{lin, split, Tri, below, zeroed, above, tri, mul
 use Rattle.plane.specs.declared.point.Point.{Point}
 use Rattle.plane.specs.Points.{orientation, scaled}
 use Rattle.plane.proofs.Points.{points_equal, xs_of, ys_of}
-use Rattle.plane.proofs.Pairs.{Between, Hits, turnE, turnX, xE, yE}
+use Rattle.plane.proofs.Pairs.{Between, Hits, turn_e, turn_x, x_e, y_e}
 
 -- s / k is u and v with weights m and n, coordinate by coordinate
 pub record Weighed (k sx sy ux uy vx vy : ℤ) : Type 0 where
@@ -38,8 +38,8 @@ renamed k sx sy ux uy vx vy w =
 abbrev pub Level : (k sx sy ux uy vx vy : ℤ) → Type 0
 Level k sx sy ux uy vx vy = (k *ℤ ux -ℤ sx) *ℤ (k *ℤ vy -ℤ sy) -ℤ (k *ℤ vx -ℤ sx) *ℤ (k *ℤ uy -ℤ sy) ≡ pos 0
 
-abbrev pub levelE : Ex
-levelE = turnX (var 0 ⊗ var 3) (var 0 ⊗ var 4) (var 0 ⊗ var 5) (var 0 ⊗ var 6) (var 1) (var 2)
+abbrev pub level_e : Ex
+level_e = turn_x (var 0 ⊗ var 3) (var 0 ⊗ var 4) (var 0 ⊗ var 5) (var 0 ⊗ var 6) (var 1) (var 2)
 
 -- by x, where the ends differ there
 pub weigh_x : (k sx sy ux uy vx vy : ℤ) → (k *ℤ ux) ≤ℤ sx → sx ≤ℤ (k *ℤ vx) → (k *ℤ ux) <ℤ (k *ℤ vx) → Level k sx sy ux uy vx vy → Weighed k sx sy ux uy vx vy
@@ -51,7 +51,7 @@ weigh_x k sx sy ux uy vx vy h i l e =
       n_some = omega (arith, lin);
       some = omega (arith, lin);
       for_x = ring (k ∷ sx ∷ sy ∷ ux ∷ uy ∷ vx ∷ vy ∷ []) ((M ⊕ N) ⊗ var 1) (var 0 ⊗ (M ⊗ var 3 ⊕ N ⊗ var 5)) refl;
-      for_y = ring_from (k ∷ sx ∷ sy ∷ ux ∷ uy ∷ vx ∷ vy ∷ []) (by unit levelE nought ∷ []) (e, tt) ((M ⊕ N) ⊗ var 2) (var 0 ⊗ (M ⊗ var 4 ⊕ N ⊗ var 6)) refl;
+      for_y = ring_from (k ∷ sx ∷ sy ∷ ux ∷ uy ∷ vx ∷ vy ∷ []) (by unit level_e nought ∷ []) (e, tt) ((M ⊕ N) ⊗ var 2) (var 0 ⊗ (M ⊗ var 4 ⊕ N ⊗ var 6)) refl;
     }
   where
     M : Ex
@@ -62,11 +62,11 @@ weigh_x k sx sy ux uy vx vy h i l e =
 
 pub level_renamed : (k sx sy ux uy vx vy : ℤ) → Level k sx sy ux uy vx vy → Level k sx sy vx vy ux uy
 level_renamed k sx sy ux uy vx vy e =
-    ring_from (k ∷ sx ∷ sy ∷ ux ∷ uy ∷ vx ∷ vy ∷ []) (by minus_unit levelE nought ∷ []) (e, tt) (turnX (var 0 ⊗ var 5) (var 0 ⊗ var 6) (var 0 ⊗ var 3) (var 0 ⊗ var 4) (var 1) (var 2)) nought refl
+    ring_from (k ∷ sx ∷ sy ∷ ux ∷ uy ∷ vx ∷ vy ∷ []) (by minus_unit level_e nought ∷ []) (e, tt) (turn_x (var 0 ⊗ var 5) (var 0 ⊗ var 6) (var 0 ⊗ var 3) (var 0 ⊗ var 4) (var 1) (var 2)) nought refl
 
 pub level_transposed : (k sx sy ux uy vx vy : ℤ) → Level k sx sy ux uy vx vy → Level k sy sx uy ux vy vx
 level_transposed k sx sy ux uy vx vy e =
-    ring_from (k ∷ sx ∷ sy ∷ ux ∷ uy ∷ vx ∷ vy ∷ []) (by minus_unit levelE nought ∷ []) (e, tt) (turnX (var 0 ⊗ var 4) (var 0 ⊗ var 3) (var 0 ⊗ var 6) (var 0 ⊗ var 5) (var 2) (var 1)) nought refl
+    ring_from (k ∷ sx ∷ sy ∷ ux ∷ uy ∷ vx ∷ vy ∷ []) (by minus_unit level_e nought ∷ []) (e, tt) (turn_x (var 0 ⊗ var 4) (var 0 ⊗ var 3) (var 0 ⊗ var 6) (var 0 ⊗ var 5) (var 2) (var 1)) nought refl
 
 -- by x, or the ends do not differ there
 pub weigh_by_x : (k sx sy ux uy vx vy : ℤ) → Between (k *ℤ ux) (k *ℤ vx) sx → Level k sx sy ux uy vx vy → Weighed k sx sy ux uy vx vy ⊎ ((sx ≡ k *ℤ ux) × (sx ≡ k *ℤ vx))
@@ -101,10 +101,10 @@ pub heights : (k : ℤ) (s u v p q : Point) → pos 0 <ℤ k → orientation (sc
 heights k s u v p q h e w =
     cancel_zero (k *ℤ k) (w.m *ℤ orientation p q u +ℤ w.n *ℤ orientation p q v) (mul_pos k k h h)
     (ring_from (u.x ∷ u.y ∷ v.x ∷ v.y ∷ p.x ∷ p.y ∷ q.x ∷ q.y ∷ s.x ∷ s.y ∷ k ∷ w.m ∷ w.n ∷ [])
-    (by (M ⊕ N) (turnX (K ⊗ xE 2) (K ⊗ yE 2) (K ⊗ xE 3) (K ⊗ yE 3) (xE 4) (yE 4)) nought
-    ∷ by (K ⊗ (yE 3 ⊖ yE 2)) ((M ⊕ N) ⊗ xE 4) (K ⊗ (M ⊗ xE 0 ⊕ N ⊗ xE 1))
-    ∷ by (K ⊗ (xE 2 ⊖ xE 3)) ((M ⊕ N) ⊗ yE 4) (K ⊗ (M ⊗ yE 0 ⊕ N ⊗ yE 1)) ∷ [])
-    (e, (w.for_x, (w.for_y, tt))) (K ⊗ K ⊗ (M ⊗ turnE 2 3 0 ⊕ N ⊗ turnE 2 3 1)) nought refl)
+    (by (M ⊕ N) (turn_x (K ⊗ x_e 2) (K ⊗ y_e 2) (K ⊗ x_e 3) (K ⊗ y_e 3) (x_e 4) (y_e 4)) nought
+    ∷ by (K ⊗ (y_e 3 ⊖ y_e 2)) ((M ⊕ N) ⊗ x_e 4) (K ⊗ (M ⊗ x_e 0 ⊕ N ⊗ x_e 1))
+    ∷ by (K ⊗ (x_e 2 ⊖ x_e 3)) ((M ⊕ N) ⊗ y_e 4) (K ⊗ (M ⊗ y_e 0 ⊕ N ⊗ y_e 1)) ∷ [])
+    (e, (w.for_x, (w.for_y, tt))) (K ⊗ K ⊗ (M ⊗ turn_e 2 3 0 ⊕ N ⊗ turn_e 2 3 1)) nought refl)
   where
     K : Ex
     K = var 10
@@ -120,10 +120,10 @@ pub end_level : (k : ℤ) (s u p q : Point) → pos 0 <ℤ k → Hits k s p q �
 end_level k s u p q h o e =
     cancel_zero (k *ℤ k) (orientation p q u) (mul_pos k k h h)
     (ring_from (u.x ∷ u.y ∷ p.x ∷ p.y ∷ q.x ∷ q.y ∷ s.x ∷ s.y ∷ k ∷ [])
-    (by unit (turnX (var 8 ⊗ xE 1) (var 8 ⊗ yE 1) (var 8 ⊗ xE 2) (var 8 ⊗ yE 2) (xE 3) (yE 3)) nought
-    ∷ by (var 8 ⊗ (yE 2 ⊖ yE 1)) (xE 3) (var 8 ⊗ xE 0)
-    ∷ by (var 8 ⊗ (xE 1 ⊖ xE 2)) (yE 3) (var 8 ⊗ yE 0) ∷ [])
-    (o.straight, (xs_of e, (ys_of e, tt))) (var 8 ⊗ var 8 ⊗ turnE 1 2 0) nought refl)
+    (by unit (turn_x (var 8 ⊗ x_e 1) (var 8 ⊗ y_e 1) (var 8 ⊗ x_e 2) (var 8 ⊗ y_e 2) (x_e 3) (y_e 3)) nought
+    ∷ by (var 8 ⊗ (y_e 2 ⊖ y_e 1)) (x_e 3) (var 8 ⊗ x_e 0)
+    ∷ by (var 8 ⊗ (x_e 1 ⊖ x_e 2)) (y_e 3) (var 8 ⊗ y_e 0) ∷ [])
+    (o.straight, (xs_of e, (ys_of e, tt))) (var 8 ⊗ var 8 ⊗ turn_e 1 2 0) nought refl)
 
 -- with no weight on v it is u
 pub no_weight : (k s u v m n : ℤ) → (m +ℤ n) *ℤ s ≡ k *ℤ (m *ℤ u +ℤ n *ℤ v) → n ≡ pos 0 → pos 0 <ℤ m → s ≡ k *ℤ u

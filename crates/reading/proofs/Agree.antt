@@ -10,7 +10,7 @@ use Rattle.plane.specs.declared.segment.Segment.{Segment}
 use Rattle.plane.specs.Points.{orientation, scaled}
 use Rattle.plane.specs.Spots.{Spot, whole, LeftOf}
 use Rattle.plane.proofs.Points.{points_equal}
-use Rattle.plane.proofs.Pairs.{turnX}
+use Rattle.plane.proofs.Pairs.{turn_x}
 use Rattle.plane.proofs.Bridge.{place, crosses_at, Fair, spot}
 use Rattle.reading.specs.Reading.{Planar, Off, Reading}
 use Rattle.reading.specs.Counting.{ends}
@@ -63,7 +63,7 @@ module _ (ls : List Segment) (s : Spot) (off : Off ls s) where
     where
       slope : (x y n a b : ℤ) → orientation (record { x = x -ℤ n; y = y -ℤ pos 1 }) (record { x = x; y = y }) (record { x = a; y = b }) ≡ n *ℤ (b -ℤ y) -ℤ (a -ℤ x)
       slope x y n a b =
-          ring (x ∷ y ∷ n ∷ a ∷ b ∷ []) (turnX (var 0 ⊖ var 2) (var 1 ⊖ con (pos 1)) (var 0) (var 1) (var 3) (var 4)) (var 2 ⊗ (var 4 ⊖ var 1) ⊖ (var 3 ⊖ var 0)) refl
+          ring (x ∷ y ∷ n ∷ a ∷ b ∷ []) (turn_x (var 0 ⊖ var 2) (var 1 ⊖ con (pos 1)) (var 0) (var 1) (var 3) (var 4)) (var 2 ⊗ (var 4 ⊖ var 1) ⊖ (var 3 ⊖ var 0)) refl
 
   fair : Fair ls s.k start (place s)
   unfolding far

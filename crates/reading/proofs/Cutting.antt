@@ -12,7 +12,7 @@ use Rattle.plane.specs.declared.segment.Segment.{Segment}
 use Rattle.plane.specs.Points.{orientation, scaled}
 use Rattle.plane.specs.Spots.{Spot, whole, SamePlace, OnSegment, EndOf}
 use Rattle.plane.specs.Meeting.{opposite}
-use Rattle.plane.proofs.Pairs.{Hits, Shared, Clean, turnE, xE, yE, A', B', P', Q'}
+use Rattle.plane.proofs.Pairs.{Hits, Shared, Clean, turn_e, x_e, y_e, A', B', P', Q'}
 use Rattle.plane.proofs.Sharing.{hits_back}
 use Rattle.plane.proofs.Weights.{Weighed, weights, heights, weight_on_u, weight_on_v}
 use Rattle.plane.proofs.Any.{any_cross_test}
@@ -47,8 +47,8 @@ on_rising a b p q e z w ha hb h =
       m_some = omega (arith, lin, hb);
       n_some = omega (arith, lin, ha);
       some = omega (arith, lin, ha, hb);
-      for_x = cancel (w.m +ℤ w.n) ((B +ℤ neg_ℤ A) *ℤ z.x) (e *ℤ (B *ℤ a.x +ℤ neg_ℤ A *ℤ b.x)) w.some (ring_from (a.x ∷ a.y ∷ b.x ∷ b.y ∷ p.x ∷ p.y ∷ q.x ∷ q.y ∷ e ∷ z.x ∷ w.m ∷ w.n ∷ []) (by (P' ⊖ Q') ((var 10 ⊕ var 11) ⊗ var 9) (var 8 ⊗ (var 10 ⊗ xE 2 ⊕ var 11 ⊗ xE 3)) ∷ by (var 8 ⊗ (xE 2 ⊖ xE 3)) (var 10 ⊗ P' ⊕ var 11 ⊗ Q') nought ∷ []) (w.for_x, (h, tt)) ((var 10 ⊕ var 11) ⊗ ((B' ⊕ neg A') ⊗ var 9)) ((var 10 ⊕ var 11) ⊗ (var 8 ⊗ (B' ⊗ xE 0 ⊕ neg A' ⊗ xE 1))) refl);
-      for_y = cancel (w.m +ℤ w.n) ((B +ℤ neg_ℤ A) *ℤ z.y) (e *ℤ (B *ℤ a.y +ℤ neg_ℤ A *ℤ b.y)) w.some (ring_from (a.x ∷ a.y ∷ b.x ∷ b.y ∷ p.x ∷ p.y ∷ q.x ∷ q.y ∷ e ∷ z.y ∷ w.m ∷ w.n ∷ []) (by (P' ⊖ Q') ((var 10 ⊕ var 11) ⊗ var 9) (var 8 ⊗ (var 10 ⊗ yE 2 ⊕ var 11 ⊗ yE 3)) ∷ by (var 8 ⊗ (yE 2 ⊖ yE 3)) (var 10 ⊗ P' ⊕ var 11 ⊗ Q') nought ∷ []) (w.for_y, (h, tt)) ((var 10 ⊕ var 11) ⊗ ((B' ⊕ neg A') ⊗ var 9)) ((var 10 ⊕ var 11) ⊗ (var 8 ⊗ (B' ⊗ yE 0 ⊕ neg A' ⊗ yE 1))) refl);
+      for_x = cancel (w.m +ℤ w.n) ((B +ℤ neg_ℤ A) *ℤ z.x) (e *ℤ (B *ℤ a.x +ℤ neg_ℤ A *ℤ b.x)) w.some (ring_from (a.x ∷ a.y ∷ b.x ∷ b.y ∷ p.x ∷ p.y ∷ q.x ∷ q.y ∷ e ∷ z.x ∷ w.m ∷ w.n ∷ []) (by (P' ⊖ Q') ((var 10 ⊕ var 11) ⊗ var 9) (var 8 ⊗ (var 10 ⊗ x_e 2 ⊕ var 11 ⊗ x_e 3)) ∷ by (var 8 ⊗ (x_e 2 ⊖ x_e 3)) (var 10 ⊗ P' ⊕ var 11 ⊗ Q') nought ∷ []) (w.for_x, (h, tt)) ((var 10 ⊕ var 11) ⊗ ((B' ⊕ neg A') ⊗ var 9)) ((var 10 ⊕ var 11) ⊗ (var 8 ⊗ (B' ⊗ x_e 0 ⊕ neg A' ⊗ x_e 1))) refl);
+      for_y = cancel (w.m +ℤ w.n) ((B +ℤ neg_ℤ A) *ℤ z.y) (e *ℤ (B *ℤ a.y +ℤ neg_ℤ A *ℤ b.y)) w.some (ring_from (a.x ∷ a.y ∷ b.x ∷ b.y ∷ p.x ∷ p.y ∷ q.x ∷ q.y ∷ e ∷ z.y ∷ w.m ∷ w.n ∷ []) (by (P' ⊖ Q') ((var 10 ⊕ var 11) ⊗ var 9) (var 8 ⊗ (var 10 ⊗ y_e 2 ⊕ var 11 ⊗ y_e 3)) ∷ by (var 8 ⊗ (y_e 2 ⊖ y_e 3)) (var 10 ⊗ P' ⊕ var 11 ⊗ Q') nought ∷ []) (w.for_y, (h, tt)) ((var 10 ⊕ var 11) ⊗ ((B' ⊕ neg A') ⊗ var 9)) ((var 10 ⊕ var 11) ⊗ (var 8 ⊗ (B' ⊗ y_e 0 ⊕ neg A' ⊗ y_e 1))) refl);
     })
   where
     A : ℤ
@@ -61,7 +61,7 @@ on_crossed : (a b p q : Point) (e : ℤ) (z : Point) (w : Weighed e z.x z.y p.x 
 on_crossed a b p q e z w o h = go (opposite_cases (orientation p q a) (orientation p q b) o)
   where
     other : w.m *ℤ orientation b a p +ℤ w.n *ℤ orientation b a q ≡ pos 0
-    other = ring_from (a.x ∷ a.y ∷ b.x ∷ b.y ∷ p.x ∷ p.y ∷ q.x ∷ q.y ∷ w.m ∷ w.n ∷ []) (by minus_unit (var 8 ⊗ P' ⊕ var 9 ⊗ Q') nought ∷ []) (h, tt) (var 8 ⊗ turnE 1 0 2 ⊕ var 9 ⊗ turnE 1 0 3) nought refl
+    other = ring_from (a.x ∷ a.y ∷ b.x ∷ b.y ∷ p.x ∷ p.y ∷ q.x ∷ q.y ∷ w.m ∷ w.n ∷ []) (by minus_unit (var 8 ⊗ P' ⊕ var 9 ⊗ Q') nought ∷ []) (h, tt) (var 8 ⊗ turn_e 1 0 2 ⊕ var 9 ⊗ turn_e 1 0 3) nought refl
 
     go : UpOrDown (orientation p q a) (orientation p q b) → Hits e z a b
     go (inl s) = on_rising a b p q e z w s.0 s.1 h
@@ -126,9 +126,9 @@ module _ (ls : List Segment) (o : Planar ls) (k : ℤ) (p q : Point) (hk : pos 0
     M : ℤ
     M = pos 2 +ℤ bound fall ls
 
-    hM : pos 2 ≤ℤ M
+    h_m : pos 2 ≤ℤ M
     unfolding M
-    hM = omega (arith, lin, bound_some fall ls)
+    h_m = omega (arith, lin, bound_some fall ls)
 
     abbrev N : ℤ
     N = grain w.m w.n M
@@ -145,14 +145,14 @@ module _ (ls : List Segment) (o : Planar ls) (k : ℤ) (p q : Point) (hk : pos 0
     at_m : There (scaled (k *ℤ N) m.low) (scaled (k *ℤ N) m.high) (scaled N p) u v (scaled N q)
     at_m =
         subst₂ (λ a b. There a b (scaled N p) u v (scaled N q)) (finer m.low) (finer m.high)
-        (crossed_there p q w.m w.n M hg hh hM (scaled k m.low) (scaled k m.high) e (heights c.point.scale c.point.at p q (scaled k m.low) (scaled k m.high) c.point.some_scale c.point.on_segment.straight w))
+        (crossed_there p q w.m w.n M hg hh h_m (scaled k m.low) (scaled k m.high) e (heights c.point.scale c.point.at p q (scaled k m.low) (scaled k m.high) c.point.some_scale c.point.on_segment.straight w))
 
     at_other : (l : Segment) → l ∈ ls → ¬ (l ≡ m) → Elsewhere (crosses_at k p q l) (scaled (k *ℤ N) l.low) (scaled (k *ℤ N) l.high) (scaled N p) u v (scaled N q)
     unfolding fall M
     at_other l j n =
         let b = bounded fall ls l j in
         subst₂ (λ a b. Elsewhere (crosses_at k p q l) a b (scaled N p) u v (scaled N q)) (finer l.low) (finer l.high)
-        (crossed_elsewhere p q w.m w.n M hg hh hM (scaled k l.low) (scaled k l.high) (fair l j) (omega (arith, lin, b)) (omega (arith, lin, b)) (not_through m l i j n c w))
+        (crossed_elsewhere p q w.m w.n M hg hh h_m (scaled k l.low) (scaled k l.high) (fair l j) (omega (arith, lin, b)) (omega (arith, lin, b)) (not_through m l i j n c w))
 
     each : (P : Segment → Type 0) → P m → ((l : Segment) → l ∈ ls → ¬ (l ≡ m) → P l) → (l : Segment) → l ∈ ls → P l
     each P h f l j = go (same_or_not l m)
@@ -165,7 +165,7 @@ module _ (ls : List Segment) (o : Planar ls) (k : ℤ) (p q : Point) (hk : pos 0
     cut =
         record {
           factor = N;
-          some = some_grain p q w.m w.n M hg hh hM;
+          some = some_grain p q w.m w.n M hg hh h_m;
           short = u;
           beyond = v;
           fair_first = each (λ l. touches_at (k *ℤ N) (scaled N p) u l ≡ crosses_at (k *ℤ N) (scaled N p) u l) at_m.fair_first (λ l j n. (at_other l j n).fair_first);

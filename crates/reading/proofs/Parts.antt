@@ -42,7 +42,7 @@ short_of p q g h M = mean (M *ℤ g +ℤ pos 1) p (M *ℤ h -ℤ pos 1) q
 abbrev pub past : Point → Point → ℤ → ℤ → ℤ → Point
 past p q g h M = mean (M *ℤ g -ℤ pos 1) p (M *ℤ h +ℤ pos 1) q
 
-module _ (p q : Point) (g h M : ℤ) (hg : pos 0 <ℤ g) (hh : pos 0 <ℤ h) (hM : pos 2 ≤ℤ M) where
+module _ (p q : Point) (g h M : ℤ) (hg : pos 0 <ℤ g) (hh : pos 0 <ℤ h) (h_m : pos 2 ≤ℤ M) where
   abbrev N : ℤ
   N = grain g h M
 

@@ -7,9 +7,9 @@ use Rattle.algebra.proofs.Members.{apart, Case, holds, fails, case}
 use Rattle.plane.specs.declared.point.Point.{Point}
 use Rattle.plane.specs.Points.{orientation, scaled}
 use Rattle.plane.specs.Meeting.{opposite}
-use Rattle.plane.proofs.Pairs.{Between, Hits, Shared, straddles, ranges_meet, touches, crosses, turnE, turnX, xE, yE}
+use Rattle.plane.proofs.Pairs.{Between, Hits, Shared, straddles, ranges_meet, touches, crosses, turn_e, turn_x, x_e, y_e}
 use Rattle.plane.proofs.Sharing.{mean_between, cancel_between}
-use Rattle.plane.proofs.Weights.{Weighed, weights, levelE}
+use Rattle.plane.proofs.Weights.{Weighed, weights, level_e}
 use Rattle.plane.proofs.Any.{any_touch_test, touches_scaled}
 use Rattle.plane.proofs.Bridge.{cross_touch}
 use Rattle.reading.proofs.Opposites.{opposite_by, astride}
@@ -34,7 +34,7 @@ fair_by a b p q o h k = go (case (opposite (orientation a b p) (orientation a b 
 pub hits_weighed : (e : ℤ) (w u v : Point) → Weighed e w.x w.y u.x u.y v.x v.y → Hits e w u v
 hits_weighed e w u v W =
     record {
-      straight = cancel_zero (W.m +ℤ W.n) (orientation (scaled e u) (scaled e v) w) W.some (ring_from (e ∷ w.x ∷ w.y ∷ u.x ∷ u.y ∷ v.x ∷ v.y ∷ W.m ∷ W.n ∷ []) (by (var 0 ⊗ (var 4 ⊖ var 6)) ((var 7 ⊕ var 8) ⊗ var 1) (var 0 ⊗ (var 7 ⊗ var 3 ⊕ var 8 ⊗ var 5)) ∷ by (var 0 ⊗ (var 5 ⊖ var 3)) ((var 7 ⊕ var 8) ⊗ var 2) (var 0 ⊗ (var 7 ⊗ var 4 ⊕ var 8 ⊗ var 6)) ∷ []) (W.for_x, (W.for_y, tt)) ((var 7 ⊕ var 8) ⊗ levelE) nought refl);
+      straight = cancel_zero (W.m +ℤ W.n) (orientation (scaled e u) (scaled e v) w) W.some (ring_from (e ∷ w.x ∷ w.y ∷ u.x ∷ u.y ∷ v.x ∷ v.y ∷ W.m ∷ W.n ∷ []) (by (var 0 ⊗ (var 4 ⊖ var 6)) ((var 7 ⊕ var 8) ⊗ var 1) (var 0 ⊗ (var 7 ⊗ var 3 ⊕ var 8 ⊗ var 5)) ∷ by (var 0 ⊗ (var 5 ⊖ var 3)) ((var 7 ⊕ var 8) ⊗ var 2) (var 0 ⊗ (var 7 ⊗ var 4 ⊕ var 8 ⊗ var 6)) ∷ []) (W.for_x, (W.for_y, tt)) ((var 7 ⊕ var 8) ⊗ level_e) nought refl);
       across = among w.x u.x v.x W.for_x;
       along = among w.y u.y v.y W.for_y;
     }
@@ -63,11 +63,11 @@ height N a b p q u U = U.m *ℤ orientation a b p +ℤ U.n *ℤ orientation a b 
 height_is : (N : ℤ) (a b p q u : Point) (U : Along N p q u) → orientation (scaled N a) (scaled N b) u ≡ N *ℤ height N a b p q u U
 height_is N a b p q u U =
     ring_from (a.x ∷ a.y ∷ b.x ∷ b.y ∷ p.x ∷ p.y ∷ q.x ∷ q.y ∷ u.x ∷ u.y ∷ U.m ∷ U.n ∷ N ∷ [])
-    (by (var 12 ⊗ (yE 0 ⊖ yE 1)) (xE 4) (var 10 ⊗ xE 2 ⊕ var 11 ⊗ xE 3)
-    ∷ by (var 12 ⊗ (xE 1 ⊖ xE 0)) (yE 4) (var 10 ⊗ yE 2 ⊕ var 11 ⊗ yE 3)
-    ∷ by (var 12 ⊗ (xE 1 ⊗ yE 0 ⊖ xE 0 ⊗ yE 1)) (var 10 ⊕ var 11) (var 12) ∷ [])
+    (by (var 12 ⊗ (y_e 0 ⊖ y_e 1)) (x_e 4) (var 10 ⊗ x_e 2 ⊕ var 11 ⊗ x_e 3)
+    ∷ by (var 12 ⊗ (x_e 1 ⊖ x_e 0)) (y_e 4) (var 10 ⊗ y_e 2 ⊕ var 11 ⊗ y_e 3)
+    ∷ by (var 12 ⊗ (x_e 1 ⊗ y_e 0 ⊖ x_e 0 ⊗ y_e 1)) (var 10 ⊕ var 11) (var 12) ∷ [])
     (U.for_x, (U.for_y, (U.total, tt)))
-    (turnX (var 12 ⊗ xE 0) (var 12 ⊗ yE 0) (var 12 ⊗ xE 1) (var 12 ⊗ yE 1) (xE 4) (yE 4)) (var 12 ⊗ (var 10 ⊗ turnE 0 1 2 ⊕ var 11 ⊗ turnE 0 1 3)) refl
+    (turn_x (var 12 ⊗ x_e 0) (var 12 ⊗ y_e 0) (var 12 ⊗ x_e 1) (var 12 ⊗ y_e 1) (x_e 4) (y_e 4)) (var 12 ⊗ (var 10 ⊗ turn_e 0 1 2 ⊕ var 11 ⊗ turn_e 0 1 3)) refl
 
 -- the stretch from u to v
 module _ (N : ℤ) (p q u v : Point) (some : pos 0 <ℤ N) (U : Along N p q u) (V : Along N p q v) where
@@ -123,14 +123,14 @@ module _ (N : ℤ) (p q u v : Point) (some : pos 0 <ℤ N) (U : Along N p q u) (
   stretch_side : (c : Point) → orientation u v (scaled N c) ≡ turning *ℤ orientation p q c
   stretch_side c =
       ring_from (u.x ∷ u.y ∷ v.x ∷ v.y ∷ p.x ∷ p.y ∷ q.x ∷ q.y ∷ c.x ∷ c.y ∷ U.m ∷ U.n ∷ V.m ∷ V.n ∷ N ∷ [])
-      (by (yE 1 ⊖ K ⊗ yE 4) (xE 0) (of (xE 2) (xE 3) (var 10) (var 11))
-      ∷ by (K ⊗ xE 4 ⊖ of (xE 2) (xE 3) (var 12) (var 13)) (yE 0) (of (yE 2) (yE 3) (var 10) (var 11))
-      ∷ by (K ⊗ yE 4 ⊖ yE 0) (xE 1) (of (xE 2) (xE 3) (var 12) (var 13))
-      ∷ by (of (xE 2) (xE 3) (var 10) (var 11) ⊖ K ⊗ xE 4) (yE 1) (of (yE 2) (yE 3) (var 12) (var 13))
-      ∷ by (xE 4 ⊗ of (yE 2 ⊖ yE 4) (yE 3 ⊖ yE 4) (var 12) (var 13) ⊖ yE 4 ⊗ of (xE 2 ⊖ xE 4) (xE 3 ⊖ xE 4) (var 12) (var 13)) (var 10 ⊕ var 11) K
-      ∷ by (yE 4 ⊗ of (xE 2 ⊖ xE 4) (xE 3 ⊖ xE 4) (var 10) (var 11) ⊖ xE 4 ⊗ of (yE 2 ⊖ yE 4) (yE 3 ⊖ yE 4) (var 10) (var 11)) (var 12 ⊕ var 13) K ∷ [])
+      (by (y_e 1 ⊖ K ⊗ y_e 4) (x_e 0) (of (x_e 2) (x_e 3) (var 10) (var 11))
+      ∷ by (K ⊗ x_e 4 ⊖ of (x_e 2) (x_e 3) (var 12) (var 13)) (y_e 0) (of (y_e 2) (y_e 3) (var 10) (var 11))
+      ∷ by (K ⊗ y_e 4 ⊖ y_e 0) (x_e 1) (of (x_e 2) (x_e 3) (var 12) (var 13))
+      ∷ by (of (x_e 2) (x_e 3) (var 10) (var 11) ⊖ K ⊗ x_e 4) (y_e 1) (of (y_e 2) (y_e 3) (var 12) (var 13))
+      ∷ by (x_e 4 ⊗ of (y_e 2 ⊖ y_e 4) (y_e 3 ⊖ y_e 4) (var 12) (var 13) ⊖ y_e 4 ⊗ of (x_e 2 ⊖ x_e 4) (x_e 3 ⊖ x_e 4) (var 12) (var 13)) (var 10 ⊕ var 11) K
+      ∷ by (y_e 4 ⊗ of (x_e 2 ⊖ x_e 4) (x_e 3 ⊖ x_e 4) (var 10) (var 11) ⊖ x_e 4 ⊗ of (y_e 2 ⊖ y_e 4) (y_e 3 ⊖ y_e 4) (var 10) (var 11)) (var 12 ⊕ var 13) K ∷ [])
       (U.for_x, (U.for_y, (V.for_x, (V.for_y, (U.total, (V.total, tt))))))
-      (turnX (xE 0) (yE 0) (xE 1) (yE 1) (K ⊗ xE 4) (K ⊗ yE 4)) ((var 10 ⊗ var 13 ⊖ var 11 ⊗ var 12) ⊗ turnE 2 3 4) refl
+      (turn_x (x_e 0) (y_e 0) (x_e 1) (y_e 1) (K ⊗ x_e 4) (K ⊗ y_e 4)) ((var 10 ⊗ var 13 ⊖ var 11 ⊗ var 12) ⊗ turn_e 2 3 4) refl
     where
       K : Ex
       K = var 14

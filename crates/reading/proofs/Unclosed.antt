@@ -13,7 +13,7 @@ use Rattle.plane.specs.declared.segment.Segment.{Segment}
 use Rattle.plane.specs.Points.{same_point, orientation, scaled}
 use Rattle.plane.specs.Spots.{Spot, whole, LeftOf}
 use Rattle.plane.proofs.Points.{points_equal, xs_of, ys_of, same_point_is, same_point_holds}
-use Rattle.plane.proofs.Pairs.{straddles, clear_of, ranges_meet, touches, turnX}
+use Rattle.plane.proofs.Pairs.{straddles, clear_of, ranges_meet, touches, turn_x}
 use Rattle.plane.proofs.Bridge.{crosses_at, Fair, spot, touches_tell}
 use Rattle.reading.specs.Reading.{Planar, Reading}
 use Rattle.reading.specs.Counting.{ends, degree_at, passes_under}
@@ -138,7 +138,7 @@ module _ (ls : List Segment) (o : Planar ls) (v₀ : Point) where
     unfolding p q across odd_height
     height v =
         ring (v₀.x ∷ v₀.y ∷ n ∷ step b ∷ v.x ∷ v.y ∷ [])
-        (turnX (con (pos 2) ⊗ var 0 ⊖ var 2 ⊕ var 3) (con (pos 2) ⊗ var 1 ⊖ con (pos 1)) (con (pos 2) ⊗ var 0 ⊕ var 2 ⊕ var 3) (con (pos 2) ⊗ var 1 ⊕ con (pos 1)) (con (pos 2) ⊗ var 4) (con (pos 2) ⊗ var 5))
+        (turn_x (con (pos 2) ⊗ var 0 ⊖ var 2 ⊕ var 3) (con (pos 2) ⊗ var 1 ⊖ con (pos 1)) (con (pos 2) ⊗ var 0 ⊕ var 2 ⊕ var 3) (con (pos 2) ⊗ var 1 ⊕ con (pos 1)) (con (pos 2) ⊗ var 4) (con (pos 2) ⊗ var 5))
         ((f ⊕ f ⊕ var 3) ⊕ (f ⊕ f ⊕ var 3)) refl
       where
         f : Ex

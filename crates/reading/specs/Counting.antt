@@ -1,6 +1,5 @@
 -- Numbers of lines: at a corner, under a spot, and along a leg.
-use Rattle.std.specs.Prelude.{◌≡◌, ℕ, Bool, true, false, ◌&&◌, ◌||◌, ◌⊎◌, List, [], ◌∷◌, pos, ◌*ℤ◌, int_le}
-use Rattle.std.specs.Int.Signed.{lt_z}
+use Rattle.std.specs.Prelude.{◌≡◌, ℕ, Bool, true, false, ◌&&◌, ◌||◌, ◌⊎◌, List, [], ◌∷◌, pos, ◌*ℤ◌, int_le, int_lt}
 use Rattle.algebra.specs.Members.{◌∈◌}
 use Rattle.algebra.specs.Parity.{odd, times}
 use Rattle.plane.specs.declared.point.Point.{Point}
@@ -23,11 +22,11 @@ ClosedLines ls = (v : Point) → odd (degree_at ls v) ≡ false
 -- the line passes under the spot: it spans the spot's x, its greater end excluded, and the spot is strictly above it
 abbrev pub passes_under : Spot → Segment → Bool
 passes_under s l =
-    int_le (s.k *ℤ l.low.x) s.x && (lt_z s.x (s.k *ℤ l.high.x) && lt_z (pos 0) (orientation (scaled s.k l.low) (scaled s.k l.high) (record { x = s.x; y = s.y })))
+    int_le (s.k *ℤ l.low.x) s.x && (int_lt s.x (s.k *ℤ l.high.x) && int_lt (pos 0) (orientation (scaled s.k l.low) (scaled s.k l.high) (record { x = s.x; y = s.y })))
 
 -- the leg from p to q, to the right, passes over v: v lies strictly below it, right of p, and not right of q
 abbrev pub over : Point → Point → Point → Bool
-over p q v = lt_z p.x v.x && (int_le v.x q.x && lt_z (orientation p q v) (pos 0))
+over p q v = int_lt p.x v.x && (int_le v.x q.x && int_lt (orientation p q v) (pos 0))
 
 -- the same of a leg from spot to spot, either way round, at a fineness of both
 abbrev pub leg_over : Spot → Spot → Point → Bool
