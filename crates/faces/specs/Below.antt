@@ -1,5 +1,5 @@
 -- The segments below a spot, on its right and on its left, and the highest of them.
-use Rattle.std.specs.Prelude.{Bool, not, ◌&&◌, List, [], ◌∷◌, length, ℤ, ◌*ℤ◌, Some, None, filter, Option, int_le, int_lt}
+use Rattle.std.specs.Prelude.{Bool, not, ◌&&◌, List, [], ◌∷◌, length, ◌*ℤ◌, Some, None, filter, Option, int_le, int_lt}
 use Rattle.std.specs.List.{best_of}
 use Rattle.algebra.specs.Parity.{odd}
 use Rattle.plane.specs.declared.segment.Segment.{Segment}

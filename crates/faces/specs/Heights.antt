@@ -1,5 +1,5 @@
 -- Heights and slopes of segments, as fractions.
-use Rattle.std.specs.Prelude.{Bool, not, ◌&&◌, ◌||◌, ℤ, ◌+ℤ◌, ◌-ℤ◌, ◌*ℤ◌, int_le, int_lt}
+use Rattle.std.specs.Prelude.{Bool, ◌&&◌, ◌||◌, ℤ, ◌+ℤ◌, ◌-ℤ◌, ◌*ℤ◌, int_le, int_lt}
 use Rattle.plane.specs.declared.segment.Segment.{Segment}
 use Rattle.plane.specs.Points.{eq_int}
 use Rattle.plane.specs.Spots.{Spot}

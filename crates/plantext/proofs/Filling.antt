@@ -1,11 +1,10 @@
 -- For `read_rows`: the lines of a text, one after the other (`next_line`, `last_line`), and what each leaves in the store.
 use Rattle.std.proofs.Common.{◌≡◌, ℕ, suc, ◌+◌, ◌<◌, ◌≤◌, Bool, true, false, cond, eqb, ltb, List, [], ◌∷◌, ◌++◌, length, take, drop, is_err, Some, None, Ok, Err, Option, Result, sym, refl, ap, ◌∙◌, subst, add-one, arith, Bor}
-use Rattle.std.specs.List.{insert}
 use Rattle.std.proofs.lemmas.List.{take_all, drop_all, length-append}
 use Rattle.std.proofs.lemmas.Bool.Decides.{nat_tests}
 use Rattle.plane.specs.declared.halfsegment.Halfsegment.{Halfsegment}
 use Rattle.storage.specs.declared.interface.InsertRefusal.{InsertRefusal}
-use Rattle.storage.specs.Rows.{Inserted, after}
+use Rattle.storage.specs.Rows.{Inserted}
 use Rattle.plantext.specs.declared.plans.LineFault.{LineFault}
 use Rattle.plantext.specs.declared.plans.LineFault.TheVariants.{NotARow, NoRoom}
 use Rattle.plantext.specs.Text.{onto, pieces, row_of_line}

@@ -1,5 +1,5 @@
 -- What check's answer means: `verdict`, and that it accepts exactly the well-formed and closed rows (`accepts`).
-use Rattle.std.proofs.Common.{◌≡◌, ℕ, zero, suc, ◌-◌, ◌<◌, Bool, true, false, cond, not, ◌&&◌, ◌⊎◌, List, [], ◌∷◌, length, Some, None, Ok, Err, Option, Result, sym, refl, ap, ◌∙◌, subst, inl, inr, arith}
+use Rattle.std.proofs.Common.{◌≡◌, ℕ, zero, suc, ◌<◌, Bool, true, false, cond, not, ◌&&◌, ◌⊎◌, List, [], ◌∷◌, length, Some, None, Ok, Err, Option, Result, sym, refl, ap, ◌∙◌, subst, inl, inr, arith}
 use Rattle.std.proofs.lemmas.Bool.{cases_order, and_parts, or_cases}
 use Rattle.algebra.specs.Members.{◌∈◌, here, there, any}
 use Rattle.algebra.specs.Parity.{odd}
@@ -20,11 +20,11 @@ use Rattle.region.specs.declared.refusals.RowFault.TheVariants.{OutOfRange, NoLe
 use Rattle.region.specs.declared.refusals.CheckRefusal.{CheckRefusal}
 use Rattle.region.specs.declared.refusals.CheckRefusal.TheVariants.{BadRow, Unsorted, NoTwin, Improper, Unclosed}
 use Rattle.region.specs.Plans.{Rising, WellFormed, Closed, degree}
-use Rattle.region.specs.Check.{first, no_row, row, row_fault, faulty, misplaced, stands, twinless, crowded, uneven, refused_at, placed, each_answer, order_answer, twins_answer, meetings_answer, corners_answer, and_then, check_of}
+use Rattle.region.specs.Check.{no_row, row, row_fault, faulty, misplaced, stands, twinless, crowded, uneven, refused_at, placed, each_answer, order_answer, twins_answer, meetings_answer, corners_answer, and_then, check_of}
 use Rattle.region.specs.Verdict.{Nowhere, Misfit, Misplaced, Twinless, Crowded, LeastOdd, Verdict, Accepts}
 use Rattle.region.proofs.Firsts.{Sought, nowhere, somewhere, sought}
 use Rattle.region.proofs.Passes.{fits_at}
-use Rattle.region.proofs.Meetings.{member, rising_at}
+use Rattle.region.proofs.Meetings.{rising_at}
 
 -- a row is faulty exactly where it does not fit
 fault_is : (h : Halfsegment) → faulty (row_fault h) ≡ not (fit h)

@@ -1,5 +1,5 @@
 -- Shifting there and back, and what it leaves of the clauses of a store. The main lemmas are `there_and_back`, `insert_moved` and `remove_moved`.
-use Rattle.std.proofs.Common.{◌≡◌, ℕ, zero, suc, ◌+◌, List, [], ◌∷◌, map, ℤ, ◌+ℤ◌, ◌-ℤ◌, Ok, Err, Result, refl, ap, ◌∙◌, arith, w32, SFits}
+use Rattle.std.proofs.Common.{◌≡◌, ℕ, zero, suc, List, [], ◌∷◌, map, ℤ, ◌+ℤ◌, ◌-ℤ◌, Ok, Err, Result, refl, ap, ◌∙◌, arith, w32, SFits}
 use Rattle.std.specs.List.{insert, remove}
 use Rattle.std.specs.Int.{int_wrap}
 use Rattle.std.proofs.lemmas.Int.{ints, int_wrap-add_left, int_wrap_fits}

@@ -1,4 +1,4 @@
-use Rattle.std.proofs.Common.{◌-◌, ap, ◌∙◌, arith}
+use Rattle.std.proofs.Common.{ap, ◌∙◌, arith}
 use Rattle.storage.specs.Gaps.{opened}
 use Rattle.storage.proofs.Moves.{open_none, open_more}
 use Rattle.storage.proofs.gaps.open_gap.Goals as goal

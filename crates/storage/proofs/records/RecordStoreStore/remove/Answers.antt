@@ -1,5 +1,4 @@
 use Rattle.std.proofs.Common.{refl, arith}
-use Rattle.storage.specs.Entries.{entries}
 use Rattle.storage.proofs.Entries.{length_entries, over_entries}
 use Rattle.storage.proofs.Rows.{remove_stands, remove_no_place, removed_is}
 use Rattle.storage.proofs.records.RecordStoreStore.remove.Goals as goal
