@@ -28,8 +28,8 @@ fn put_head(bytes: &mut [u8], at: usize, tag: u8, len: usize)
 
 /// Writes the rows of the source, sixteen bytes each.
 fn put_rows<S: Source>(bytes: &mut [u8], at: usize, source: &S)
-    requires { at + 16 * length (rows source.now) ≤ length bytes.old }
-    ensures { bytes.new ≡ patched bytes.old at (rows_content (rows source.now)) }
+    requires { at + 16 * length (S.rows source.now) ≤ length bytes.old }
+    ensures { bytes.new ≡ patched bytes.old at (rows_content (S.rows source.now)) }
 {
     for i in 0..source.count() {
         let Ok(row) = source.row(i) else { return };
@@ -72,7 +72,7 @@ impl OpenArchive {
 
     /// What stands against adding the plan, if anything.
     fn admit<S: Source>(&self, room: usize, title: &[u8], source: &S) -> Result<(), AddRefusal>
-        ensures { result ≡ add_fault self.now room title.now (rows source.now) }
+        ensures { result ≡ add_fault self.now room title.now (S.rows source.now) }
     {
         if !is_title(title) {
             return Err(AddRefusal::BadTitle);
@@ -95,9 +95,9 @@ impl OpenArchive {
         title: &[u8],
         source: &S,
     ) -> Result<OpenArchive, (OpenArchive, AddRefusal)>
-        ensures answer { result ≡ add_answer self (length bytes.old) title.now (rows source.now) }
-        ensures bytes { bytes.new ≡ written result bytes.old self.len (plan_field record { title = title.entry.now; rows = rows source.now }) }
-        ensures keeps { KeepsAdded self bytes.old title.now (rows source.now) result bytes.new }
+        ensures answer { result ≡ add_answer self (length bytes.old) title.now (S.rows source.now) }
+        ensures bytes { bytes.new ≡ written result bytes.old self.len (plan_field record { title = title.entry.now; rows = S.rows source.now }) }
+        ensures keeps { KeepsAdded self bytes.old title.now (S.rows source.now) result bytes.new }
     {
         if let Err(refusal) = self.admit(bytes.len(), title, source) {
             return Err((self, refusal));
