@@ -1,6 +1,6 @@
 -- What the bytes hold after a chain of begin, add and close: `begun`, `added`, `finished`.
 use Rattle.std.proofs.Common.{◌≡◌, ℕ, ◌+◌, ◌*◌, ◌/◌, ◌%◌, ◌<◌, ◌≤◌, true, List, [], ◌∷◌, ◌++◌, length, get_or, take, drop, Ok, Err, sym, refl, ap, ◌∙◌, arith}
-use Rattle.std.specs.List.{AllByRecursion as All}
+use Rattle.std.specs.List.{AllByRecursion}
 use Rattle.std.proofs.lemmas.List.{append_assoc, append-nil, length-append, length-take, take_at}
 use Rattle.std.proofs.ByRecursion.{All-push}
 use Rattle.plane.specs.declared.halfsegment.Halfsegment.{Halfsegment}

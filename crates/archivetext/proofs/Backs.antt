@@ -1,6 +1,6 @@
 -- The text of an archive is read as that archive: `back`, also where the archive was written in bytes and these were unpacked: `again`.
 use Rattle.std.proofs.Common.{◌≡◌, ℕ, suc, ◌+◌, ◌<◌, ◌≤◌, cond, ltb, List, [], ◌∷◌, ◌++◌, map, length, Some, None, Ok, Err, codes, Option, Result, sym, refl, ap, ◌∙◌, arith}
-use Rattle.std.specs.List.{flat_map, AllByRecursion as All}
+use Rattle.std.specs.List.{flat_map, AllByRecursion}
 use Rattle.std.proofs.lemmas.List.{append-nil, append_assoc, length-append}
 use Rattle.std.proofs.lemmas.Bool.{lt-ltb}
 use Rattle.plane.specs.declared.halfsegment.Halfsegment.{Halfsegment}
@@ -30,18 +30,18 @@ abbrev plan_lines : List Plan → List (List ℕ)
 plan_lines [] = [] ∷ []
 plan_lines (p ∷ ps) = title_words p ∷ (map row_words p.rows ++ plan_lines ps)
 
-plan_fits : (p : Plan) → SoundPlan p → All Fits32 p.rows
+plan_fits : (p : Plan) → SoundPlan p → AllByRecursion Fits32 p.rows
 plan_fits p s = well_formed_fit p.rows s.well_formed s.closed
 
 -- the pieces of the text are these lines
-pieces_rows : (rows : List Halfsegment) (rest : List ℕ) → All Fits32 rows → pieces 10 (flat_map row_line rows ++ rest) ≡ map row_words rows ++ pieces 10 rest
+pieces_rows : (rows : List Halfsegment) (rest : List ℕ) → AllByRecursion Fits32 rows → pieces 10 (flat_map row_line rows ++ rest) ≡ map row_words rows ++ pieces 10 rest
 pieces_rows [] rest fits = refl
 pieces_rows (h ∷ rows) rest fits =
     ap (pieces 10) (append_assoc (row_line h) (flat_map row_line rows) rest) ∙
     pieces_line (row_words h) (flat_map row_line rows ++ rest) (row_free h fits.0) ∙
     ap (λ ls. row_words h ∷ ls) (pieces_rows rows rest fits.1)
 
-pieces_plans : (ps : List Plan) → All SoundPlan ps → pieces 10 (flat_map plan_text ps) ≡ plan_lines ps
+pieces_plans : (ps : List Plan) → AllByRecursion SoundPlan ps → pieces 10 (flat_map plan_text ps) ≡ plan_lines ps
 pieces_plans [] s = refl
 pieces_plans (p ∷ ps) s =
     ap (pieces 10) (append_assoc (title_line p.title) (flat_map row_line p.rows) (flat_map plan_text ps)) ∙
@@ -84,13 +84,13 @@ lines_some [] (p ∷ ps) = omega arith
 lines_some (h ∷ rows) ps = omega arith
 
 -- rows before the lines of other plans are read one by one
-rows_back : (start : ℕ) (title : List ℕ) (done ps : List Plan) (answer : Result (List Plan) PackFault) (more rows : List Halfsegment) → All Fits32 more → length rows + length more ≤ 4000 → ((n : ℕ) → rows_on start title n (rows ++ more) done (plan_lines ps) ≡ answer) → (n : ℕ) → rows_on start title n rows done (map row_words more ++ plan_lines ps) ≡ answer
+rows_back : (start : ℕ) (title : List ℕ) (done ps : List Plan) (answer : Result (List Plan) PackFault) (more rows : List Halfsegment) → AllByRecursion Fits32 more → length rows + length more ≤ 4000 → ((n : ℕ) → rows_on start title n (rows ++ more) done (plan_lines ps) ≡ answer) → (n : ℕ) → rows_on start title n rows done (map row_words more ++ plan_lines ps) ≡ answer
 rows_back start title done ps answer [] rows fits few next n = ap (λ l. rows_on start title n l done (plan_lines ps)) (sym (append-nil rows)) ∙ next n
 rows_back start title done ps answer (h ∷ more) rows fits few next n =
     rows_row start title n rows done h (map row_words more ++ plan_lines ps) fits.0 (omega arith) (lines_some more ps) ∙
     rows_back start title done ps answer more (rows ++ (h ∷ [])) fits.1 (omega (arith, length-append rows (h ∷ []))) (λ k. ap (λ l. rows_on start title k l done (plan_lines ps)) (append_assoc rows (h ∷ []) more) ∙ next k) (suc n)
 
-plans_back : (ps : List Plan) (p : Plan) (done : List Plan) (start n : ℕ) → SoundPlan p → All SoundPlan ps → length done + suc (length ps) ≤ 65535 → rows_on start p.title n [] done (map row_words p.rows ++ plan_lines ps) ≡ Ok (done ++ (p ∷ ps))
+plans_back : (ps : List Plan) (p : Plan) (done : List Plan) (start n : ℕ) → SoundPlan p → AllByRecursion SoundPlan ps → length done + suc (length ps) ≤ 65535 → rows_on start p.title n [] done (map row_words p.rows ++ plan_lines ps) ≡ Ok (done ++ (p ∷ ps))
 plans_back [] p done start n s all le =
     rows_back start p.title done [] (Ok (done ++ (p ∷ []))) p.rows [] (plan_fits p s) (omega (arith, s.few)) (λ k. with_plan_back start done p s (omega arith)) n
 plans_back (q ∷ qs) p done start n s all le =
@@ -101,7 +101,7 @@ plans_back (q ∷ qs) p done start n s all le =
     ap Ok (append_assoc done (p ∷ []) (q ∷ qs))) n
 
 -- behind the date
-plans_read : (n : ℕ) (ps : List Plan) → All SoundPlan ps → length ps ≤ 65535 → plans_on n (plan_lines ps) ≡ Ok ps
+plans_read : (n : ℕ) (ps : List Plan) → AllByRecursion SoundPlan ps → length ps ≤ 65535 → plans_on n (plan_lines ps) ≡ Ok ps
 plans_read n [] s le = refl
 plans_read n (p ∷ ps) s le = titled (map row_words p.rows ++ plan_lines ps) (lines_some p.rows ps) ∙ plans_back ps p [] n (suc n) s.0 s.1 (omega arith)
   where

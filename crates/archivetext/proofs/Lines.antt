@@ -1,7 +1,7 @@
 -- The lines of a text, one by one: its pieces, `pieces_before` and `pieces_line`; that a row's line is that row and no title, `row_back` and `row_no_title`; and that rows and titles have no line feed in them, `row_free` and `title_free`.
 use Rattle.std.proofs.Common.{◌≡◌, ℕ, ◌<◌, true, ◌&&◌, leb, List, [], ◌∷◌, ◌++◌, length, ℤ, Some, None, codes, refl, ap, ◌∙◌, arith, w32, SFits, rules}
 use Rattle.std.specs.Fmt.{signed_decimal}
-use Rattle.std.specs.List.{AllByRecursion as All}
+use Rattle.std.specs.List.{AllByRecursion}
 use Rattle.std.proofs.ByRecursion.{All-append, All-get_or, All-weaker}
 use Rattle.std.proofs.lemmas.List.{append_assoc}
 use Rattle.std.proofs.lemmas.Bool.{and_parts, eq-eqb, ne_eqb, leb-true}
@@ -16,7 +16,7 @@ use Rattle.archivetext.proofs.Numbers.{OfNumber, number_signed, signed_bytes, si
 
 -- no separator in it
 abbrev pub Free : ℕ → List ℕ → Type 0
-Free s l = All (λ b. b ≡ s → ⊥) l
+Free s l = AllByRecursion (λ b. b ≡ s → ⊥) l
 
 pub free_append : (s : ℕ) (l rest : List ℕ) → Free s l → Free s rest → Free s (l ++ rest)
 free_append s l rest f g = All-append (λ b. b ≡ s → ⊥) l rest f g
@@ -37,7 +37,7 @@ fields a b c d fa fb fc fd =
     pieces_before 32 a (b ++ (32 ∷ (c ++ (32 ∷ d)))) fa ∙
     ap (λ l. a ∷ l) (pieces_before 32 b (c ++ (32 ∷ d)) fb ∙ ap (λ l. b ∷ l) (pieces_before 32 c d fc ∙ ap (λ l. c ∷ l) (pieces_alone 32 d fd)))
 
-number_free : (s : ℕ) (l : List ℕ) → s < 45 → All OfNumber l → Free s l
+number_free : (s : ℕ) (l : List ℕ) → s < 45 → AllByRecursion OfNumber l → Free s l
 number_free s l lt all = All-weaker OfNumber (λ b. b ≡ s → ⊥) (λ b o e. omega arith) l all
 
 module _ (h : Halfsegment) (fits : Fits32 h) where
@@ -60,7 +60,7 @@ module _ (h : Halfsegment) (fits : Fits32 h) where
   pub row_no_title : title_of_line (row_words h) ≡ None
   row_no_title = begins (signed_decimal h.dominating.x) _ (signed_some h.dominating.x fits.cx) (signed_bytes h.dominating.x fits.cx)
     where
-      begins : (l rest : List ℕ) → 0 < length l → All OfNumber l → title_of_line (l ++ rest) ≡ None
+      begins : (l rest : List ℕ) → 0 < length l → AllByRecursion OfNumber l → title_of_line (l ++ rest) ≡ None
       begins [] rest some all = absurd (omega arith)
       begins (b ∷ l) rest some all = rw (ne_eqb b 112 (λ e. omega arith)) refl
 

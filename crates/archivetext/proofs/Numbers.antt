@@ -1,7 +1,7 @@
 -- Numbers that were written are read again, `number_signed`; what bytes they have, `signed_bytes`.
 use Rattle.std.proofs.Common.{◌≡◌, ℕ, suc, ◌+◌, ◌-◌, ◌*◌, ◌^◌, ◌<◌, ◌≤◌, true, List, [], ◌∷◌, length, ℤ, pos, negsuc, Some, decimal, fold, ap, arith, w32, SFits, rules}
 use Rattle.std.specs.Fmt.{signed_decimal}
-use Rattle.std.specs.List.{AllByRecursion as All}
+use Rattle.std.specs.List.{AllByRecursion}
 use Rattle.std.proofs.lemmas.Fmt.{digits_decimal, digits_value-decimal, decimal_nonempty}
 use Rattle.std.proofs.lemmas.Str.Parse.{IsNumeralModel, numerals_by_fold}
 use Rattle.std.proofs.lemmas.Bool.{and_parts, ne_eqb}
@@ -36,14 +36,14 @@ number_signed (negsuc n) fits =
 abbrev pub OfNumber : ℕ → Type 0
 OfNumber b = (45 ≤ b) × (b ≤ 57)
 
-digits_bytes : (ds : List ℕ) → all_digits ds ≡ true → All OfNumber ds
+digits_bytes : (ds : List ℕ) → all_digits ds ≡ true → AllByRecursion OfNumber ds
 digits_bytes [] e = tt
 digits_bytes (b ∷ bs) e =
     let p = and_parts (digit b) (all_digits bs) e in
     let low = digit_bounds b p.0 in
     ((omega arith, omega arith), digits_bytes bs p.1)
 
-pub signed_bytes : (z : ℤ) → SFits w32 z → All OfNumber (signed_decimal z)
+pub signed_bytes : (z : ℤ) → SFits w32 z → AllByRecursion OfNumber (signed_decimal z)
 signed_bytes (pos n) fits = digits_bytes (decimal n) (digits_decimal own n (omega arith))
 signed_bytes (negsuc n) fits = ((omega arith, omega arith), digits_bytes (decimal (suc n)) (digits_decimal own (suc n) (omega arith)))
 

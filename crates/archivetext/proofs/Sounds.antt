@@ -1,6 +1,6 @@
 -- What a text is read as may stand in an archive: `sound`.
 use Rattle.std.proofs.Common.{◌≡◌, ℕ, suc, ◌<◌, ◌≤◌, cond, eqb, ltb, List, [], ◌∷◌, ◌++◌, length, Some, None, Ok, Err, Option, Result, refl, subst, arith}
-use Rattle.std.specs.List.{AllByRecursion as All}
+use Rattle.std.specs.List.{AllByRecursion}
 use Rattle.std.proofs.ByRecursion.{All-push}
 use Rattle.std.proofs.lemmas.List.{length-append}
 use Rattle.std.proofs.lemmas.Bool.{ltb-true}
@@ -22,7 +22,7 @@ use Rattle.archivetext.specs.Pack.{at_line, date_of_line, title_of_line, plan_fa
 
 -- the plans so far may stand in an archive
 record Plans (done : List Plan) : Type 0 where
-  pub all : All SoundPlan done
+  pub all : AllByRecursion SoundPlan done
   pub count : length done ≤ 65535
 
 no_plans : Plans []

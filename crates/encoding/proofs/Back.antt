@@ -1,6 +1,6 @@
 -- What was written comes back: `back`, from the fields outwards.
 use Rattle.std.proofs.Common.{◌≡◌, ℕ, zero, suc, ◌+◌, ◌*◌, ◌/◌, ◌%◌, ◌<◌, ◌≤◌, Bool, true, cond, ◌||◌, eqb, List, [], ◌∷◌, ◌++◌, length, Some, None, Ok, Err, Option, Result, refl, ap, ◌∙◌, arith}
-use Rattle.std.specs.List.{AllByRecursion as All}
+use Rattle.std.specs.List.{AllByRecursion}
 use Rattle.std.proofs.lemmas.List.{append_assoc, length-append}
 use Rattle.std.proofs.lemmas.Bool.{le-leb, eq-eqb, and_from, cond-true}
 use Rattle.plane.specs.declared.halfsegment.Halfsegment.{Halfsegment}
@@ -32,7 +32,7 @@ date_back d v =
 title_back : (title : List ℕ) → valid_title title ≡ true → title_in title ≡ Ok title
 title_back title v = cond-true (valid_title title) (Ok title) (Err BadTitle) v
 
-rows_back : (rows : List Halfsegment) → All Fits32 rows → length rows ≤ 4000 → rows_in (rows_content rows) ≡ Ok rows
+rows_back : (rows : List Halfsegment) → AllByRecursion Fits32 rows → length rows ≤ 4000 → rows_in (rows_content rows) ≡ Ok rows
 rows_back rows f few =
     let n = length_rows_content rows in
     cond-true _ (Ok (rows_of (rows_content rows))) (Err Malformed) (and_from _ _ (le-leb (length (rows_content rows)) 64000 (omega arith)) (eq-eqb (length (rows_content rows) % 16) 0 (omega arith))) ∙ ap Ok (rows_of_content rows f)
@@ -83,7 +83,7 @@ next_none place k n due e b =
     ((λ i. and_then (at_field place (count_in k (b.content_is i))) (λ _. cond (eqb (length (b.beyond_is i)) 0) (Ok None) (Err (AtField (place + (3 + size_of due)) Malformed)))) ∙
     ap (λ r. and_then (at_field place r) (λ _. Ok None)) (count_back k n e))
 
-plans_back : (ps : List Plan) (most place k n : ℕ) → All SoundPlan ps → length ps < most → k + length ps ≡ n → plans_in most place k (plan_fields ps ++ last_field n) ≡ Ok ps
+plans_back : (ps : List Plan) (most place k n : ℕ) → AllByRecursion SoundPlan ps → length ps < most → k + length ps ≡ n → plans_in most place k (plan_fields ps ++ last_field n) ≡ Ok ps
 plans_back ps zero place k n s l e = absurd (omega arith)
 plans_back [] (suc most) place k n s l e = ap of (next_none place k n (last_field n) (omega arith) (begins_last last_tag (two_bytes n)))
   where

@@ -1,6 +1,6 @@
 -- Only encodings are accepted: `only`.
 use Rattle.std.proofs.Common.{◌≡◌, ℕ, zero, suc, ◌+◌, ◌*◌, ◌%◌, ◌≤◌, Bool, true, false, cond, ◌&&◌, ◌||◌, eqb, leb, List, [], ◌∷◌, ◌++◌, length, get_or, Some, None, Ok, Err, Option, Result, sym, refl, ap, ◌∙◌, subst, add-zero, zero-add, arith}
-use Rattle.std.specs.List.{AllByRecursion as All}
+use Rattle.std.specs.List.{AllByRecursion}
 use Rattle.std.proofs.lemmas.List.{append-nil, append_assoc}
 use Rattle.std.proofs.lemmas.Bool.{eqb-true, leb-true, and_parts}
 use Rattle.plane.specs.declared.halfsegment.Halfsegment.{Halfsegment}
@@ -138,7 +138,7 @@ next_only place n due o small e =
 -- the fields of all further plans, after n plans
 record PlansAt (n : ℕ) (due : List ℕ) (ps : List Plan) : Type 0 where
   is : due ≡ plan_fields ps ++ last_field (n + length ps)
-  sound : All SoundPlan ps
+  sound : AllByRecursion SoundPlan ps
   count : n + length ps ≤ 65535
 
 plans_only : (most place n : ℕ) (due : List ℕ) (ps : List Plan) → Bytes due → plans_in most place n due ≡ Ok ps → PlansAt n due ps

@@ -1,6 +1,6 @@
 -- Lists of rows in bytes: how long they are, that they come back, and that the rows of a plan fit their bytes.
 use Rattle.std.proofs.Common.{◌≡◌, ℕ, zero, suc, ◌*◌, ◌/◌, ◌<◌, true, not, ◌&&◌, List, [], ◌∷◌, ◌++◌, length, get_or, ℤ, Ok, Err, Result, sym, refl, ◌∙◌, ⊎_elim, arith, w32, SFits, rules}
-use Rattle.std.specs.List.{AllByRecursion as All}
+use Rattle.std.specs.List.{AllByRecursion}
 use Rattle.std.proofs.ByRecursion.{All-from_get_or}
 use Rattle.std.proofs.lemmas.List.{same_lists, places, length-append}
 use Rattle.std.proofs.lemmas.Int.{ints}
@@ -33,7 +33,7 @@ rows_of_front new bs n16 =
         get_or_rows_of (new ++ bs) (suc k) d (omega (arith, length_rows_of (new ++ bs))) ∙
         (row_same (new ++ bs) bs (16 * suc k) (16 * k) (λ j l. search (rules, places)) ∙ sym (get_or_rows_of bs k d within))
 
-pub rows_of_content : (rows : List Halfsegment) → All Fits32 rows → rows_of (rows_content rows) ≡ rows
+pub rows_of_content : (rows : List Halfsegment) → AllByRecursion Fits32 rows → rows_of (rows_content rows) ≡ rows
 rows_of_content [] f = refl
 rows_of_content (h ∷ rows) f =
     rows_of_front (row_bytes h) (rows_content rows) refl ∙ (λ i. row_back h f.0 i ∷ rows_of_content rows f.1 i)
@@ -57,9 +57,9 @@ each_accepted rows e = by (each_answer rows) _ e
     by (Ok _) next q = refl
     by (Err refusal) next q = absurd (grind arith)
 
-pub accepted_fit : (rows : List Halfsegment) → check_of rows ≡ Ok tt → All Fits32 rows
+pub accepted_fit : (rows : List Halfsegment) → check_of rows ≡ Ok tt → AllByRecursion Fits32 rows
 accepted_fit rows e =
     All-from_get_or Fits32 rows no_row (λ i l. fit_fits (row rows i) (⊎_elim (λ t. t) (λ f. absurd (each_fits rows (each_accepted rows e) i l f)) (cases_Bool (fit (row rows i)))))
 
-pub well_formed_fit : (rows : List Halfsegment) → WellFormed rows → Closed rows → All Fits32 rows
+pub well_formed_fit : (rows : List Halfsegment) → WellFormed rows → Closed rows → AllByRecursion Fits32 rows
 well_formed_fit rows w c = accepted_fit rows ((accepts rows).1 (w, c))

@@ -1,6 +1,6 @@
 -- The bytes of an archive. A field is a tag, a length of two bytes and that many bytes; numbers go highest byte first.
 use Rattle.std.specs.Prelude.{◌≡◌, ℕ, ◌/◌, ◌%◌, ◌≤◌, Bool, true, ◌&&◌, List, [], ◌∷◌, ◌++◌, length, nat_le}
-use Rattle.std.specs.List.{AllByRecursion as All}
+use Rattle.std.specs.List.{AllByRecursion}
 use Rattle.plane.specs.declared.halfsegment.Halfsegment.{Halfsegment}
 use Rattle.storage.specs.Bytes.{row_bytes}
 use Rattle.region.specs.Plans.{WellFormed, Closed}
@@ -80,5 +80,5 @@ pub record SoundPlan (p : Plan) : Type 0 where
 -- an archive that may be written
 pub record Sound (a : Archive) : Type 0 where
   pub date : valid_date a.date ≡ true
-  pub plans : All SoundPlan a.plans
+  pub plans : AllByRecursion SoundPlan a.plans
   pub count : length a.plans ≤ 65535

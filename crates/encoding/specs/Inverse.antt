@@ -1,11 +1,11 @@
 -- Reading is the inverse of writing.
 use Rattle.std.specs.Prelude.{◌≡◌, ℕ, ◌<◌, List, Ok}
-use Rattle.std.specs.List.{AllByRecursion as All}
+use Rattle.std.specs.List.{AllByRecursion}
 use Rattle.encoding.specs.Format.{Archive, Sound, encoded}
 use Rattle.encoding.specs.Read.{read_of}
 
 abbrev pub Bytes : List ℕ → Type 0
-Bytes bs = All (λ b. b < 256) bs
+Bytes bs = AllByRecursion (λ b. b < 256) bs
 
 -- what was written comes back, and nothing else is accepted: the bytes that are read as an archive are just its encoding
 pub record Inverse : Type 0 where

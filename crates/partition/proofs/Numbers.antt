@@ -1,6 +1,6 @@
 -- Numbers by first place: one code more (`count_new`, `number_new`, `count_old`), and codes renamed.
 use Rattle.std.proofs.Common.{◌≡◌, ℕ, suc, ◌+◌, ◌<◌, Bool, true, false, cond, ◌||◌, eqb, ltb, ◌⊎◌, List, [], ◌∷◌, ◌++◌, map, length, get_or, take, fold, sym, refl, ap, ◌∙◌, inl, inr, arith, length-append}
-use Rattle.std.specs.List.{AllByRecursion as All}
+use Rattle.std.specs.List.{AllByRecursion}
 use Rattle.std.proofs.ByRecursion.{All-push, All-from_get_or}
 use Rattle.std.proofs.lemmas.List.{length-map, get_or-map, map_push}
 use Rattle.std.proofs.lemmas.List.Sums.{fold_more}
@@ -48,41 +48,41 @@ module _ (cs : List ℕ) (i : ℕ) (lt : i < length cs) where
 
 -- f tells the codes apart that P holds of
 module _ (f : ℕ → ℕ) (P : ℕ → Type 0) (apart : (a b : ℕ) → P a → P b → eqb (f a) (f b) ≡ eqb a b) where
-  has_renamed : (ds : List ℕ) (c : ℕ) → All P ds → P c → has (map f ds) (f c) ≡ has ds c
+  has_renamed : (ds : List ℕ) (c : ℕ) → AllByRecursion P ds → P c → has (map f ds) (f c) ≡ has ds c
   has_renamed [] c a p = refl
   has_renamed (d ∷ ds) c a p = λ i. apart d c a.0 p i || has_renamed ds c a.1 p i
 
-  place_renamed : (ds : List ℕ) (c : ℕ) → All P ds → P c → place_of (map f ds) (f c) ≡ place_of ds c
+  place_renamed : (ds : List ℕ) (c : ℕ) → AllByRecursion P ds → P c → place_of (map f ds) (f c) ≡ place_of ds c
   place_renamed [] c a p = refl
   place_renamed (d ∷ ds) c a p = λ i. cond (apart d c a.0 p i) 0 (suc (place_renamed ds c a.1 p i))
 
-  noted_all : (ds : List ℕ) (c : ℕ) → All P ds → P c → All P (noted ds c)
+  noted_all : (ds : List ℕ) (c : ℕ) → AllByRecursion P ds → P c → AllByRecursion P (noted ds c)
   noted_all ds c a p = by (has ds c)
     where
-      by : (b : Bool) → All P (cond b ds (ds ++ (c ∷ [])))
+      by : (b : Bool) → AllByRecursion P (cond b ds (ds ++ (c ∷ [])))
       by true = a
       by false = All-push P ds c a p
 
-  noted_renamed : (ds : List ℕ) (c : ℕ) → All P ds → P c → noted (map f ds) (f c) ≡ map f (noted ds c)
+  noted_renamed : (ds : List ℕ) (c : ℕ) → AllByRecursion P ds → P c → noted (map f ds) (f c) ≡ map f (noted ds c)
   noted_renamed ds c a p = (λ i. cond (has_renamed ds c a p i) (map f ds) (map f ds ++ (f c ∷ []))) ∙ by (has ds c)
     where
       by : (b : Bool) → cond b (map f ds) (map f ds ++ (f c ∷ [])) ≡ map f (cond b ds (ds ++ (c ∷ [])))
       by true = refl
       by false = sym (map_push f ds c)
 
-  folded_renamed : (cs seen : List ℕ) → All P cs → All P seen → fold noted (map f seen) (map f cs) ≡ map f (fold noted seen cs)
+  folded_renamed : (cs seen : List ℕ) → AllByRecursion P cs → AllByRecursion P seen → fold noted (map f seen) (map f cs) ≡ map f (fold noted seen cs)
   folded_renamed [] seen a b = refl
   folded_renamed (c ∷ cs) seen a b =
       ap (λ (s : List ℕ). fold noted s (map f cs)) (noted_renamed seen c b a.0) ∙ folded_renamed cs (noted seen c) a.1 (noted_all seen c b a.0)
 
-  folded_all : (cs seen : List ℕ) → All P cs → All P seen → All P (fold noted seen cs)
+  folded_all : (cs seen : List ℕ) → AllByRecursion P cs → AllByRecursion P seen → AllByRecursion P (fold noted seen cs)
   folded_all [] seen a b = b
   folded_all (c ∷ cs) seen a b = folded_all cs (noted seen c) a.1 (noted_all seen c b a.0)
 
-  distinct_renamed : (cs : List ℕ) → All P cs → distinct (map f cs) ≡ map f (distinct cs)
+  distinct_renamed : (cs : List ℕ) → AllByRecursion P cs → distinct (map f cs) ≡ map f (distinct cs)
   distinct_renamed cs a = folded_renamed cs [] a tt
 
-  number_renamed : (cs : List ℕ) (c : ℕ) → All P cs → P c → number_of (map f cs) (f c) ≡ number_of cs c
+  number_renamed : (cs : List ℕ) (c : ℕ) → AllByRecursion P cs → P c → number_of (map f cs) (f c) ≡ number_of cs c
   number_renamed cs c a p = ap (λ (ds : List ℕ). suc (place_of ds (f c))) (distinct_renamed cs a) ∙ ap suc (place_renamed (distinct cs) c (folded_all cs [] a tt) p)
 
 -- codes renamed to their first places keep their numbers
@@ -98,7 +98,7 @@ module _ (cs : List ℕ) where
       go (inr e) =
           ne_eqb (place_of cs a) (place_of cs b) (λ h. e (sym (place_hit cs a p) ∙ ap (λ k. get_or cs k 0) h ∙ place_hit cs b q)) ∙ sym (ne_eqb a b e)
 
-  all : All Stands cs
+  all : AllByRecursion Stands cs
   all = All-from_get_or Stands cs 0 (stands_at cs)
 
   pub numbers_same : (k : ℕ) → k < length cs → number_of (map (place_of cs) cs) (place_of cs (get_or cs k 0)) ≡ number_of cs (get_or cs k 0)
