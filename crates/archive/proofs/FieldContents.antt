@@ -1,7 +1,7 @@
 -- The content of a field that was read (`got`), and what it says (`says`).
-use Rattle.std.proofs.Common.{◌≡◌, ℕ, ◌+◌, ◌-◌, ◌*◌, ◌%◌, ◌<◌, ◌≤◌, min, Bool, true, false, cond, eqb, leb, ◌⊎◌, List, length, get_or, take, drop, Ok, Err, Result, sym, refl, ap, ◌∙◌, arith, Bor, rules}
+use Rattle.std.proofs.Common.{◌≡◌, ℕ, ◌+◌, ◌%◌, ◌<◌, ◌≤◌, min, Bool, true, false, cond, eqb, leb, ◌⊎◌, List, length, take, drop, Ok, Err, Result, sym, ap, ◌∙◌, arith, Bor, rules}
 use Rattle.std.specs.List.{between}
-use Rattle.std.proofs.lemmas.List.{places, same_lists, drop-drop}
+use Rattle.std.proofs.lemmas.List.{places, same_lists}
 use Rattle.std.proofs.lemmas.Bool.{leb-true, cond-true, cond-false}
 use Rattle.std.proofs.lemmas.List.Edits.{length-between}
 use Rattle.std.proofs.lemmas.Bool.Decides.{nat_tests}
@@ -9,11 +9,11 @@ use Rattle.storage.specs.Bytes.{rows_of}
 use Rattle.encoding.specs.declared.faults.FieldFault.{FieldFault}
 use Rattle.encoding.specs.declared.faults.FieldFault.TheVariants.{NoFit, Malformed, BadTitle}
 use Rattle.encoding.specs.Format.{valid_title}
-use Rattle.encoding.specs.Read.{tag_of, size_of, content_of, beyond, framed, and_then, title_in, rows_in}
+use Rattle.encoding.specs.Read.{tag_of, size_of, content_of, framed, and_then, title_in, rows_in}
 use Rattle.encoding.proofs.Unframed.{cond_ok, cond_err}
 use Rattle.archive.specs.declared.spans.Span.{Span}
 use Rattle.archive.specs.declared.fields.Field.{Field}
-use Rattle.archive.specs.Fields.{Part, part_of, field_tag, left, with_content}
+use Rattle.archive.specs.Fields.{Part, part_of, field_tag, left, with_content, Moved}
 use Rattle.archive.proofs.Framing.{length_due}
 
 -- a field that is framed fits into what is left
@@ -29,7 +29,7 @@ framed_fits may_come due e =
 part_of_part : (bs : List ℕ) (at end m n : ℕ) → m + n ≤ length (between at end bs) → between (at + m) (at + m + n) bs ≡ take n (drop m (between at end bs))
 part_of_part bs at end m n h = same_lists _ _ (search (rules, places)) (λ k d l. grind (arith, places))
 
-content_at : (bs : List ℕ) (at end n : ℕ) → 3 + n ≤ length (between at end bs) → between (at + 3) (at + 3 + n) bs ≡ take n (drop 3 (between at end bs))
+pub content_at : (bs : List ℕ) (at end n : ℕ) → 3 + n ≤ length (between at end bs) → between (at + 3) (at + 3 + n) bs ≡ take n (drop 3 (between at end bs))
 content_at bs at end n h = part_of_part bs at end 3 n h
 
 pub record Got (b : Bor (List ℕ)) (s : Span) (p : Bor (List ℕ)) : Type 0 where
@@ -65,3 +65,8 @@ bad_rows bs h = cond-false _ (Ok (rows_of bs)) (Err Malformed) (grind (arith, na
 
 pub good_rows : (bs : List ℕ) → length bs ≤ 64000 → length bs % 16 ≡ 0 → rows_in bs ≡ Ok (rows_of bs)
 good_rows bs h k = cond-true _ (Ok (rows_of bs)) (Err Malformed) (grind (arith, nat_tests))
+
+-- whatever a field's content says, the span is behind the field
+pub moves : {A E : Type 0} (bs : List ℕ) (s t : Span) (r : Result A E) → t ≡ record { at = s.at + (3 + size_of (left bs s)); end = s.end } → Moved bs s t r
+moves bs s t (Ok a) e = e
+moves bs s t (Err fault) e = ap (λ u. u.end) e

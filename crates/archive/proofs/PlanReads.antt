@@ -1,5 +1,5 @@
 -- The ways through a plan's content: `rows_fault`, `left_over`, `unsound` and `sound`.
-use Rattle.std.proofs.Common.{◌≡◌, ℕ, ◌+◌, ◌-◌, ◌*◌, ◌<◌, ◌≤◌, min, Bool, true, false, cond, eqb, List, length, take, drop, Ok, Err, Result, sym, refl, ap, ◌∙◌, subst, arith, Bor, rules}
+use Rattle.std.proofs.Common.{◌≡◌, ℕ, ◌+◌, ◌<◌, ◌≤◌, eqb, List, length, drop, Ok, Err, Result, sym, ap, ◌∙◌, subst, arith, Bor, rules}
 use Rattle.std.specs.List.{between}
 use Rattle.std.proofs.lemmas.List.{places, same_lists, length-take-le, length-drop}
 use Rattle.std.proofs.lemmas.Bool.{eq-eqb, ne_eqb, cond-true, cond-false}
@@ -16,8 +16,7 @@ use Rattle.encoding.specs.Read.{size_of, content_of, beyond, framed, and_then, i
 use Rattle.encoding.proofs.Unframed.{in_field_ok, err_ok, and_then_ok, cond_ok, ok_same}
 use Rattle.archive.specs.declared.spans.Span.{Span}
 use Rattle.archive.specs.declared.views.PlanView.{PlanView}
-use Rattle.archive.specs.declared.plans.ArchivedPlan.{ArchivedPlan}
-use Rattle.archive.specs.Fields.{Part, TitlePart, RowsPart, Parts, left, with_content, Moved, seen, seen_rows, seen_plan, plan_seen}
+use Rattle.archive.specs.Fields.{Part, TitlePart, RowsPart, Parts, left, with_content, Moved, seen, seen_rows}
 use Rattle.archive.proofs.Framing.{length_due}
 use Rattle.archive.proofs.FieldContents.{framed_fits}
 

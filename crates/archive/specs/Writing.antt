@@ -4,7 +4,7 @@ use Rattle.plane.specs.declared.halfsegment.Halfsegment.{Halfsegment}
 use Rattle.region.specs.Check.{check_of, check_number}
 use Rattle.encoding.specs.declared.dates.Date.{Date}
 use Rattle.encoding.specs.Dates.{valid_date}
-use Rattle.encoding.specs.Format.{Plan, Archive, Sound, date_field, plan_field, plan_fields, last_field, encoded, valid_title}
+use Rattle.encoding.specs.Format.{Archive, Sound, date_field, plan_fields, encoded, valid_title}
 use Rattle.encoding.specs.Read.{read_of}
 use Rattle.archive.specs.declared.states.OpenArchive.{OpenArchive}
 use Rattle.archive.specs.declared.states.ClosedArchive.{ClosedArchive}

@@ -1,4 +1,4 @@
-use Rattle.std.proofs.Common.{◌<◌, ap, ◌∙◌, arith, rules}
+use Rattle.std.proofs.Common.{◌<◌, ap, ◌∙◌, rules}
 use Rattle.archive.specs.Writing.{patched}
 use Rattle.archive.proofs.Chains.{last_bytes, finished}
 use Rattle.archive.proofs.states.OpenArchive.close.Goals as goal

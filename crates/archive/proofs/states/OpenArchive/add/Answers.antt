@@ -1,4 +1,4 @@
-use Rattle.std.proofs.Common.{length, sym, refl, ◌∙◌, arith}
+use Rattle.std.proofs.Common.{length, sym, refl}
 use Rattle.archive.proofs.Adding.{admitted, grown, granted, add_bytes}
 use Rattle.archive.proofs.Chains.{added}
 use Rattle.archive.proofs.states.OpenArchive.add.Goals as goal

@@ -1,4 +1,4 @@
-use Rattle.std.proofs.Common.{◌+◌, sym, refl, ap, ◌∙◌, arith}
+use Rattle.std.proofs.Common.{◌+◌, sym, refl, ◌∙◌, arith}
 use Rattle.archive.specs.Fields.{due_tag}
 use Rattle.archive.proofs.Framing.{no_byte, wrong_tag, no_head, no_content, fits, tag_due, size_due, same_part, same_place}
 use Rattle.archive.proofs.fields.read_field.Goals as goal

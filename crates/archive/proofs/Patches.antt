@@ -1,10 +1,7 @@
 -- Writes over a list, one behind the other: `more` joins two, and `rows_more` adds a row.
-use Rattle.std.proofs.Common.{◌≡◌, ℕ, ◌+◌, ◌-◌, ◌*◌, ◌<◌, ◌≤◌, List, [], ◌∷◌, ◌++◌, length, get_or, take, drop, sym, refl, ap, ◌∙◌, subst, arith, rules}
+use Rattle.std.proofs.Common.{◌≡◌, ℕ, ◌+◌, ◌-◌, ◌≤◌, List, [], ◌++◌, length, arith, rules}
 use borrow.Rule.Slice.PartMut.{put_mid}
-use Rattle.std.proofs.lemmas.List.{same_lists, places, append_assoc, append-nil, length-append, length-take-le, drop_all, take_all, take_more}
-use Rattle.plane.specs.declared.halfsegment.Halfsegment.{Halfsegment}
-use Rattle.storage.specs.Bytes.{row_bytes}
-use Rattle.encoding.specs.Format.{rows_content}
+use Rattle.std.proofs.lemmas.List.{same_lists, places}
 use Rattle.archive.specs.Writing.{patched}
 
 -- what `copy_from_slice` leaves

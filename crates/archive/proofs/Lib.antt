@@ -6,3 +6,5 @@ pub mod Framing
 pub mod PlanPlaces
 pub mod FieldContents
 pub mod PlanReads
+pub mod NextReads
+pub mod WholeReads

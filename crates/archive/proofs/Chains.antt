@@ -1,17 +1,15 @@
 -- What the bytes hold after a chain of begin, add and close: `begun`, `added`, `finished`.
-use Rattle.std.proofs.Common.{◌≡◌, ℕ, ◌+◌, ◌*◌, ◌/◌, ◌%◌, ◌<◌, ◌≤◌, true, List, [], ◌∷◌, ◌++◌, length, get_or, take, drop, Ok, Err, sym, refl, ap, ◌∙◌, arith}
-use Rattle.std.specs.List.{AllByRecursion}
+use Rattle.std.proofs.Common.{◌≡◌, ℕ, ◌+◌, ◌/◌, ◌%◌, ◌<◌, ◌≤◌, true, List, [], ◌∷◌, ◌++◌, length, get_or, take, drop, sym, refl, ap, ◌∙◌, arith}
 use Rattle.std.proofs.lemmas.List.{append_assoc, append-nil, length-append, length-take, take_at}
 use Rattle.std.proofs.ByRecursion.{All-push}
 use Rattle.plane.specs.declared.halfsegment.Halfsegment.{Halfsegment}
 use Rattle.region.proofs.Verdicts.{accepts}
 use Rattle.encoding.specs.declared.dates.Date.{Date}
 use Rattle.encoding.specs.Dates.{valid_date}
-use Rattle.encoding.specs.Format.{Plan, Archive, Sound, SoundPlan, date_field, plan_field, plan_fields, last_field, encoded}
+use Rattle.encoding.specs.Format.{Plan, Archive, SoundPlan, date_field, plan_field, plan_fields, last_field, encoded}
 use Rattle.encoding.specs.Read.{read_of}
 use Rattle.encoding.proofs.Back.{back}
 use Rattle.archive.specs.declared.states.OpenArchive.{OpenArchive}
-use Rattle.archive.specs.declared.states.ClosedArchive.{ClosedArchive}
 use Rattle.archive.specs.Writing.{patched, plan_size, Holds, Finished}
 use Rattle.archive.proofs.Adding.{Admitted, length_plan_field}
 

@@ -1,5 +1,5 @@
 -- The field at the front of what is left to read, by the places of the bytes: each way through `read_field`.
-use Rattle.std.proofs.Common.{◌≡◌, ℕ, ◌+◌, ◌-◌, ◌*◌, ◌<◌, ◌≤◌, min, Bool, true, false, cond, eqb, leb, List, length, get_or, Ok, Err, Result, sym, ap, ◌∙◌, arith, Bor, rules}
+use Rattle.std.proofs.Common.{◌≡◌, ℕ, ◌+◌, ◌-◌, ◌*◌, ◌<◌, ◌≤◌, min, Bool, true, false, cond, eqb, leb, List, length, get_or, Ok, Err, Result, ap, ◌∙◌, arith, Bor, rules}
 use Rattle.std.specs.List.{between}
 use Rattle.std.proofs.lemmas.List.{places}
 use Rattle.std.proofs.lemmas.Bool.{le-leb, lt-leb, eq-eqb, ne_eqb}

@@ -1,5 +1,5 @@
 -- Adding a plan: what an admission says (`admitted`), and the five writes as one (`add_bytes`).
-use Rattle.std.proofs.Common.{◌≡◌, ℕ, ◌+◌, ◌*◌, ◌<◌, ◌≤◌, Bool, true, false, cond, ◌&&◌, ltb, leb, List, [], ◌∷◌, ◌++◌, length, get_or, take, Ok, Err, Result, sym, refl, ap, ◌∙◌, arith}
+use Rattle.std.proofs.Common.{◌≡◌, ℕ, ◌+◌, ◌*◌, ◌<◌, ◌≤◌, Bool, true, false, cond, ◌&&◌, ltb, leb, List, [], ◌∷◌, ◌++◌, length, take, Ok, Err, Result, sym, refl, ap, ◌∙◌, arith}
 use Rattle.std.proofs.lemmas.List.{append_assoc, append-nil, length-append, length-take-le, take_more, take_all}
 use Rattle.std.proofs.lemmas.Bool.Decides.{nat_tests}
 use Rattle.plane.specs.declared.halfsegment.Halfsegment.{Halfsegment}
@@ -14,7 +14,7 @@ use Rattle.archive.specs.declared.states.OpenArchive.{OpenArchive}
 use Rattle.archive.specs.declared.states.AddRefusal.{AddRefusal}
 use Rattle.archive.specs.declared.states.AddRefusal.TheVariants.{BadTitle, BadPlan, TooLarge}
 use Rattle.archive.specs.Writing.{patched, plan_size, add_fault, add_answer}
-use Rattle.archive.proofs.Patches.{more, none, length_patched}
+use Rattle.archive.proofs.Patches.{more}
 
 pub record Admitted (o : OpenArchive) (room : ℕ) (title : List ℕ) (rows : List Halfsegment) : Type 0 where
   pub title_is : valid_title title ≡ true
