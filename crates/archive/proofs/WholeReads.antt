@@ -14,8 +14,8 @@ use Rattle.encoding.proofs.Only.{only}
 use Rattle.encoding.proofs.Unframed.{err_ok}
 use Rattle.archive.specs.declared.spans.Span.{Span}
 use Rattle.archive.specs.declared.plans.ArchivedPlan.{ArchivedPlan}
-use Rattle.archive.specs.declared.reading.Reader.{Reader}
-use Rattle.archive.specs.declared.reading.Contents.{Contents}
+use Rattle.archive.specs.declared.decoding.Reader.{Reader}
+use Rattle.archive.specs.declared.decoding.Contents.{Contents}
 use Rattle.archive.specs.Fields.{left, plan_seen}
 use Rattle.archive.specs.Reading.{Accepted, Opened, behind, seen_next, stepped, summed, told}
 use Rattle.archive.proofs.Framing.{length_due}

@@ -7,8 +7,8 @@ use Rattle.encoding.specs.Format.{Plan, Archive, Sound, encoded, date_tag}
 use Rattle.encoding.specs.Read.{size_of, at_field, date_in}
 use Rattle.archive.specs.declared.spans.Span.{Span}
 use Rattle.archive.specs.declared.plans.ArchivedPlan.{ArchivedPlan}
-use Rattle.archive.specs.declared.reading.Reader.{Reader}
-use Rattle.archive.specs.declared.reading.Contents.{Contents}
+use Rattle.archive.specs.declared.decoding.Reader.{Reader}
+use Rattle.archive.specs.declared.decoding.Contents.{Contents}
 use Rattle.archive.specs.Fields.{left, with_content, plan_seen, Parts}
 
 -- the plan behind the references of an answer

@@ -6,7 +6,7 @@ use Rattle.archive.specs.Fields.{part_of, field_tag, due_tag}
 use Rattle.archive.specs.Reading.{seen_next}
 use Rattle.archive.proofs.FieldContents.{got}
 use Rattle.archive.proofs.NextReads.{field_read, plan_fault, plan_read, last_fault, last_over, last_read}
-use Rattle.archive.proofs.reading.read_next.Goals as goal
+use Rattle.archive.proofs.decoding.read_next.Goals as goal
 
 pub returns-in_err-plan-in-Plan-clause-value : goal.returns-in_err-plan-in-Plan-clause-value
 returns-in_err-plan-in-Plan-clause-value c =

@@ -1,6 +1,6 @@
 use Rattle.std.proofs.Common.{◌-◌, length}
 use Rattle.archive.proofs.WholeReads.{Reading}
-use Rattle.archive.proofs.reading.read.Given as goal
+use Rattle.archive.proofs.decoding.read.Given as goal
 
 abbrev pub invariant-loop : goal.invariant-loop
 invariant-loop l = Reading l.bytes l.date l.reader

@@ -1,8 +1,8 @@
 use Rattle.std.proofs.Common.{Err, ap, ◌∙◌}
 use Rattle.std.proofs.lemmas.Result.{err_from_is_err_and}
 use Rattle.archive.proofs.WholeReads.{opened, ended_at, finished, goes_on, judged}
-use Rattle.archive.proofs.reading.read.Goals as goal
-use Rattle.archive.proofs.reading.read.Goals.{Else-is_some, After-from_residual-in_err-next_plan}
+use Rattle.archive.proofs.decoding.read.Goals as goal
+use Rattle.archive.proofs.decoding.read.Goals.{Else-is_some, After-from_residual-in_err-next_plan}
 
 pub loop-init : goal.loop-init
 loop-init c = opened c.args.bytes c.in_ok-date.date c.in_ok-date.reader c.in_ok-date.ensures

@@ -3,7 +3,7 @@ use Rattle.encoding.specs.Format.{date_tag}
 use Rattle.encoding.specs.Read.{date_in}
 use Rattle.archive.specs.Fields.{part_of, left}
 use Rattle.archive.proofs.FieldContents.{got, says, moves}
-use Rattle.archive.proofs.reading.read_date.Goals as goal
+use Rattle.archive.proofs.decoding.read_date.Goals as goal
 
 pub returns : goal.returns
 returns c =
