@@ -93,14 +93,14 @@ module _ (title : List ℕ) (rows : List Halfsegment) where
 
   pub add_bytes : (bs b1 b2 b3 b4 b5 : List ℕ) (len size count : ℕ) → size ≡ length title → count ≡ length rows → len + plan_size title rows ≤ length bs → b1 ≡ patched bs len (32 ∷ two_bytes (6 + size + 16 * count)) → b2 ≡ patched b1 (len + 3) (33 ∷ two_bytes size) → b3 ≡ patched b2 (len + 6) title → b4 ≡ patched b3 (len + 6 + size) (34 ∷ two_bytes (16 * count)) → b5 ≡ patched b4 (len + 9 + size) (rows_content rows) → b5 ≡ patched bs len (plan_field plan)
   add_bytes bs b1 b2 b3 b4 b5 len size count s c fits p q r t u =
-      let h1 : List ℕ = 32 ∷ two_bytes (6 + size + 16 * count) in
-      let h2 : List ℕ = 33 ∷ two_bytes size in
-      let h3 : List ℕ = 34 ∷ two_bytes (16 * count) in
+      let plan_head : List ℕ = 32 ∷ two_bytes (6 + size + 16 * count) in
+      let title_head : List ℕ = 33 ∷ two_bytes size in
+      let rows_head : List ℕ = 34 ∷ two_bytes (16 * count) in
       let n = length_rows_content rows in
-      let e2 : b2 ≡ patched bs len (h1 ++ h2) = q ∙ ap (λ b. patched b (len + 3) h2) p ∙ more bs h1 h2 len (len + 3) refl (omega arith) in
-      let l2 : len + 6 ≡ len + length (h1 ++ h2) = refl in
-      let e3 : b3 ≡ patched bs len ((h1 ++ h2) ++ title) = r ∙ ap (λ b. patched b (len + 6) title) e2 ∙ more bs (h1 ++ h2) title len (len + 6) l2 (omega arith) in
-      let l3 : len + 6 + size ≡ len + length ((h1 ++ h2) ++ title) = omega (arith, length-append (h1 ++ h2) title) in
-      let e4 : b4 ≡ patched bs len (((h1 ++ h2) ++ title) ++ h3) = t ∙ ap (λ b. patched b (len + 6 + size) h3) e3 ∙ more bs ((h1 ++ h2) ++ title) h3 len (len + 6 + size) l3 (omega arith) in
-      let l4 : len + 9 + size ≡ len + length (((h1 ++ h2) ++ title) ++ h3) = omega (arith, length-append ((h1 ++ h2) ++ title) h3, length-append (h1 ++ h2) title) in
-      u ∙ ap (λ b. patched b (len + 9 + size) (rows_content rows)) e4 ∙ more bs (((h1 ++ h2) ++ title) ++ h3) (rows_content rows) len (len + 9 + size) l4 (omega arith) ∙ ap (patched bs len) (pieces_are size count s c)
+      let with_title_head : b2 ≡ patched bs len (plan_head ++ title_head) = q ∙ ap (λ b. patched b (len + 3) title_head) p ∙ more bs plan_head title_head len (len + 3) refl (omega arith) in
+      let title_place : len + 6 ≡ len + length (plan_head ++ title_head) = refl in
+      let with_title : b3 ≡ patched bs len ((plan_head ++ title_head) ++ title) = r ∙ ap (λ b. patched b (len + 6) title) with_title_head ∙ more bs (plan_head ++ title_head) title len (len + 6) title_place (omega arith) in
+      let rows_head_place : len + 6 + size ≡ len + length ((plan_head ++ title_head) ++ title) = omega (arith, length-append (plan_head ++ title_head) title) in
+      let with_rows_head : b4 ≡ patched bs len (((plan_head ++ title_head) ++ title) ++ rows_head) = t ∙ ap (λ b. patched b (len + 6 + size) rows_head) with_title ∙ more bs ((plan_head ++ title_head) ++ title) rows_head len (len + 6 + size) rows_head_place (omega arith) in
+      let rows_place : len + 9 + size ≡ len + length (((plan_head ++ title_head) ++ title) ++ rows_head) = omega (arith, length-append ((plan_head ++ title_head) ++ title) rows_head, length-append (plan_head ++ title_head) title) in
+      u ∙ ap (λ b. patched b (len + 9 + size) (rows_content rows)) with_rows_head ∙ more bs (((plan_head ++ title_head) ++ title) ++ rows_head) (rows_content rows) len (len + 9 + size) rows_place (omega arith) ∙ ap (patched bs len) (pieces_are size count s c)

@@ -1,4 +1,4 @@
--- The ways through the field that follows the date or a plan: `plan_fault`, `plan_read`, `last_fault`, `last_over` and `last_read`.
+-- The field that follows the date or a plan, `field_read`, and the ways through it: `plan_fault`, `plan_read`, `last_fault`, `last_over` and `last_read`.
 use Rattle.std.proofs.Common.{◌≡◌, ℕ, suc, ◌+◌, ◌-◌, ◌<◌, ◌≤◌, min, Bool, cond, eqb, List, length, Some, None, Ok, Err, Option, Result, sym, ap, ◌∙◌, subst, add-one, arith, Bor}
 use Rattle.std.specs.List.{between}
 use Rattle.std.specs.Prelude.{◌==◌}
@@ -13,11 +13,12 @@ use Rattle.encoding.specs.Read.{tag_of, size_of, content_of, beyond, framed, and
 use Rattle.encoding.proofs.Unframed.{err_ok, at_field_ok}
 use Rattle.archive.specs.declared.spans.Span.{Span}
 use Rattle.archive.specs.declared.fields.Field.{Field}
+use Rattle.archive.specs.declared.fields.Field.TheVariants as field
 use Rattle.archive.specs.declared.plans.ArchivedPlan.{ArchivedPlan}
 use Rattle.archive.specs.declared.fields.Due.TheVariants.{PlanOrLast}
-use Rattle.archive.specs.Fields.{due_tag, left, seen_plan, plan_seen, FieldRead, passed}
+use Rattle.archive.specs.Fields.{due_tag, field_tag, part_of, left, seen_plan, plan_seen, FieldRead, passed}
 use Rattle.archive.proofs.Framing.{length_due}
-use Rattle.archive.proofs.FieldContents.{framed_fits, content_at}
+use Rattle.archive.proofs.FieldContents.{framed_fits, content_at, got}
 use Rattle.archive.proofs.PlanReads.{left_past}
 
 -- a field that was read, and the span behind it
@@ -25,6 +26,16 @@ pub field_read : (b : Bor (List ℕ)) (s t : Span) (place : ℕ) (r : Result Fie
 field_read b s t place r w f read on told ok =
     let e = at_field_ok place r f (sym told ∙ ok) in
     (subst (FieldRead PlanOrLast b s) e read, on ∙ ap (passed b.now s) e)
+
+-- a plan's field that was read
+pub plan_tagged : (b : Bor (List ℕ)) (s : Span) (f : Field) (content : Bor (List ℕ)) → FieldRead PlanOrLast b s (Ok f) → f ≡ field.Plan content → plan_tag ≡ tag_of (left b.now s)
+plan_tagged b s f content read is = sym (ap field_tag is) ∙ read.1
+
+-- the last field that was read: its tag and its content
+pub last_got : (b : Bor (List ℕ)) (s : Span) (f : Field) (content : Bor (List ℕ)) → FieldRead PlanOrLast b s (Ok f) → f ≡ field.Last content → (last_tag ≡ tag_of (left b.now s)) × (content.now ≡ content_of (left b.now s))
+last_got b s f content read is =
+    let g = got b s (due_tag PlanOrLast) f content read (ap part_of is) in
+    (sym (ap field_tag is) ∙ read.1, g.content)
 
 module _ (bs : List ℕ) (s : Span) (plans : ℕ) (framed_is : framed (due_tag PlanOrLast) (left bs s) ≡ Ok tt) where
   abbrev due : List ℕ

@@ -1,76 +1,87 @@
-use Rattle.std.proofs.Common.{◌≡◌, Err, sym, ap, ◌∙◌, subst, rules}
+use Rattle.std.proofs.Common.{◌≡◌, ◌+◌, Ok, Err, sym, ap, ◌∙◌, subst, arith, rules}
 use Rattle.std.proofs.lemmas.Result.{err_from_is_err_and}
 use Rattle.storage.specs.Bytes.{rows_of}
-use Rattle.archive.specs.Fields.{PlanParts, seen_plan}
+use Rattle.encoding.specs.Format.{title_tag, rows_tag}
+use Rattle.encoding.specs.Read.{size_of, title_in, rows_in}
+use Rattle.archive.specs.Fields.{PlanParts, left, seen_plan, with_content}
 use Rattle.archive.proofs.PlanReads.{granted, seen_ok, rows_ok, moved_ok, parts_ok, rows_fault, left_over, unsound, sound}
 use Rattle.archive.proofs.plans.read_plan.Goals as goal
+use Rattle.archive.proofs.plans.read_plan.Goals.{In_ok-title, In_ok-rows}
+
+-- the title was read, from the front of the plan's content, and the span is behind it
+titled :
+    (c : In_ok-title) →
+    (c.enter-inside.result.span.now ≡ record { at = c.args.from; end = c.args.to }) ×
+    (with_content title_tag title_in (left c.args.bytes.now c.enter-inside.result.span.now) ≡ Ok c.in_ok-title.title.now) ×
+    (c.read_title.new.span ≡ record { at = c.enter-inside.result.span.now.at + (3 + size_of (left c.args.bytes.now c.enter-inside.result.span.now)); end = c.enter-inside.result.span.now.end }) ×
+    (c.read_title.result ≡ Ok c.in_ok-title.title)
+titled c =
+    let ok = granted c.args.from c.read_title.result c.in_field.result c.in_ok-title.title c.in_field.ensures c.in_ok-title.was in
+    (
+      λ i. record { at = c.enter-inside.ensures.at i; end = c.enter-inside.ensures.end i },
+      seen_ok c.read_title.result c.in_ok-title.title _ ok c.read_title.ensures.value,
+      moved_ok c.args.bytes.now c.enter-inside.result.span.now c.read_title.new.span c.read_title.result c.in_ok-title.title ok c.read_title.ensures.moved,
+      ok,
+    )
+
+-- and so were the rows
+rowed :
+    (c : In_ok-rows) →
+    (with_content rows_tag rows_in (left c.args.bytes.now c.read_title.new.span) ≡ Ok (rows_of c.in_ok-rows.rows.bytes.now)) ×
+    (c.read_rows.new.span ≡ record { at = c.read_title.new.span.at + (3 + size_of (left c.args.bytes.now c.read_title.new.span)); end = c.read_title.new.span.end }) ×
+    (c.read_rows.result ≡ Ok c.in_ok-rows.rows)
+rowed c =
+    let ok = granted c.read_title.new.span.at c.read_rows.result c.in_field-2.result c.in_ok-rows.rows c.in_field-2.ensures c.in_ok-rows.was in
+    (
+      rows_ok c.read_rows.result c.in_ok-rows.rows _ ok c.read_rows.ensures.value,
+      moved_ok c.args.bytes.now c.read_title.new.span c.read_rows.new.span c.read_rows.result c.in_ok-rows.rows ok c.read_rows.ensures.moved,
+      ok,
+    )
 
 pub returns-in_err-rows : goal.returns-in_err-rows
 returns-in_err-rows c =
-    let bs = c.args.bytes.now in
-    let s0 = c.enter-inside.result.span.now in
-    let s1 = c.read_title.new.span in
-    let start : s0 ≡ record { at = c.args.from; end = c.args.to } = λ i. record { at = c.enter-inside.ensures.at i; end = c.enter-inside.ensures.end i } in
-    let ok = granted c.args.from c.read_title.result c.in_field.result c.in_ok-title.title c.in_field.ensures c.in_ok-title.was in
-    let said = seen_ok c.read_title.result c.in_ok-title.title _ ok c.read_title.ensures.value in
-    let moved = moved_ok bs s0 s1 c.read_title.result c.in_ok-title.title ok c.read_title.ensures.moved in
+    let t = titled (goal.at.returns-in_err-rows c).In_ok-title in
     let p = err_from_is_err_and c.from_residual-in_err-rows.result c.from_residual-in_err-rows.ensures.1 in
     record {
-      value = ap seen_plan (p.1 ∙ ap Err p.2) ∙ rows_fault bs c.args.from c.args.to s0 s1 c.in_ok-title.title.now start said moved c.read_rows.result c.in_err-rows.field-0.0 c.read_rows.ensures.value (sym c.in_field-2.ensures ∙ c.in_err-rows.was);
+      value =
+        ap seen_plan (p.1 ∙ ap Err p.2) ∙
+        rows_fault c.args.bytes.now c.args.from c.args.to c.enter-inside.result.span.now c.read_title.new.span c.in_ok-title.title.now t.0 t.1 t.2 c.read_rows.result c.in_err-rows.field-0.0 c.read_rows.ensures.value (sym c.in_field-2.ensures ∙ c.in_err-rows.was);
       parts = subst (PlanParts c.args.bytes c.args.from) (sym p.1) tt;
       end = search rules;
     }
 
 pub returns-then-place-to : goal.returns-then-place-to
 returns-then-place-to c =
-    let bs = c.args.bytes.now in
-    let s0 = c.enter-inside.result.span.now in
-    let s1 = c.read_title.new.span in
-    let start : s0 ≡ record { at = c.args.from; end = c.args.to } = λ i. record { at = c.enter-inside.ensures.at i; end = c.enter-inside.ensures.end i } in
-    let ok = granted c.args.from c.read_title.result c.in_field.result c.in_ok-title.title c.in_field.ensures c.in_ok-title.was in
-    let said = seen_ok c.read_title.result c.in_ok-title.title _ ok c.read_title.ensures.value in
-    let moved = moved_ok bs s0 s1 c.read_title.result c.in_ok-title.title ok c.read_title.ensures.moved in
-    let s2 = c.read_rows.new.span in
-    let fine = granted s1.at c.read_rows.result c.in_field-2.result c.in_ok-rows.rows c.in_field-2.ensures c.in_ok-rows.was in
-    let read = rows_ok c.read_rows.result c.in_ok-rows.rows _ fine c.read_rows.ensures.value in
-    let on = moved_ok bs s1 s2 c.read_rows.result c.in_ok-rows.rows fine c.read_rows.ensures.moved in
-    record { value = left_over bs c.args.from c.args.to s0 s1 c.in_ok-title.title.now start said moved (rows_of c.in_ok-rows.rows.bytes.now) s2 read on c.requires c.if-place-to.true; parts = tt; end = search rules }
+    let at = goal.at.returns-then-place-to c in
+    let t = titled at.In_ok-title in
+    let r = rowed at.In_ok-rows in
+    record {
+      value = left_over c.args.bytes.now c.args.from c.args.to c.enter-inside.result.span.now c.read_title.new.span c.in_ok-title.title.now t.0 t.1 t.2 (rows_of c.in_ok-rows.rows.bytes.now) c.read_rows.new.span r.0 r.1 c.requires c.if-place-to.true;
+      parts = tt;
+      end = search rules;
+    }
 
 pub returns-in_err-check : goal.returns-in_err-check
 returns-in_err-check c =
-    let bs = c.args.bytes.now in
-    let s0 = c.enter-inside.result.span.now in
-    let s1 = c.read_title.new.span in
-    let start : s0 ≡ record { at = c.args.from; end = c.args.to } = λ i. record { at = c.enter-inside.ensures.at i; end = c.enter-inside.ensures.end i } in
-    let ok = granted c.args.from c.read_title.result c.in_field.result c.in_ok-title.title c.in_field.ensures c.in_ok-title.was in
-    let said = seen_ok c.read_title.result c.in_ok-title.title _ ok c.read_title.ensures.value in
-    let moved = moved_ok bs s0 s1 c.read_title.result c.in_ok-title.title ok c.read_title.ensures.moved in
-    let s2 = c.read_rows.new.span in
-    let fine = granted s1.at c.read_rows.result c.in_field-2.result c.in_ok-rows.rows c.in_field-2.ensures c.in_ok-rows.was in
-    let read = rows_ok c.read_rows.result c.in_ok-rows.rows _ fine c.read_rows.ensures.value in
-    let on = moved_ok bs s1 s2 c.read_rows.result c.in_ok-rows.rows fine c.read_rows.ensures.moved in
+    let at = goal.at.returns-in_err-check c in
+    let t = titled at.In_ok-title in
+    let r = rowed at.In_ok-rows in
     let p = err_from_is_err_and c.from_residual-in_err-check.result c.from_residual-in_err-check.ensures.1 in
     record {
-      value = ap seen_plan (p.1 ∙ ap Err p.2) ∙ unsound bs c.args.from c.args.to s0 s1 c.in_ok-title.title.now start said moved (rows_of c.in_ok-rows.rows.bytes.now) s2 read on c.requires c.if-place-to.false _ c.in_err-check.ensures.answer;
+      value =
+        ap seen_plan (p.1 ∙ ap Err p.2) ∙
+        unsound c.args.bytes.now c.args.from c.args.to c.enter-inside.result.span.now c.read_title.new.span c.in_ok-title.title.now t.0 t.1 t.2 (rows_of c.in_ok-rows.rows.bytes.now) c.read_rows.new.span r.0 r.1 c.requires c.if-place-to.false _ c.in_err-check.ensures.answer;
       parts = subst (PlanParts c.args.bytes c.args.from) (sym p.1) tt;
       end = search rules;
     }
 
 pub returns : goal.returns
 returns c =
-    let bs = c.args.bytes.now in
-    let s0 = c.enter-inside.result.span.now in
-    let s1 = c.read_title.new.span in
-    let start : s0 ≡ record { at = c.args.from; end = c.args.to } = λ i. record { at = c.enter-inside.ensures.at i; end = c.enter-inside.ensures.end i } in
-    let ok = granted c.args.from c.read_title.result c.in_field.result c.in_ok-title.title c.in_field.ensures c.in_ok-title.was in
-    let said = seen_ok c.read_title.result c.in_ok-title.title _ ok c.read_title.ensures.value in
-    let moved = moved_ok bs s0 s1 c.read_title.result c.in_ok-title.title ok c.read_title.ensures.moved in
-    let s2 = c.read_rows.new.span in
-    let fine = granted s1.at c.read_rows.result c.in_field-2.result c.in_ok-rows.rows c.in_field-2.ensures c.in_ok-rows.was in
-    let read = rows_ok c.read_rows.result c.in_ok-rows.rows _ fine c.read_rows.ensures.value in
-    let on = moved_ok bs s1 s2 c.read_rows.result c.in_ok-rows.rows fine c.read_rows.ensures.moved in
+    let at = goal.at.returns c in
+    let t = titled at.In_ok-title in
+    let r = rowed at.In_ok-rows in
     record {
-      value = sound bs c.args.from c.args.to s0 s1 c.in_ok-title.title.now start said moved (rows_of c.in_ok-rows.rows.bytes.now) s2 read on c.requires c.if-place-to.false c.in_ok-check.ensures.answer;
-      parts = parts_ok c.args.bytes c.args.from s0 s1 c.read_title.result c.read_rows.result c.in_ok-title.title c.in_ok-rows.rows c.enter-inside.ensures.at said moved ok fine c.read_title.ensures.part c.read_rows.ensures.part;
+      value = sound c.args.bytes.now c.args.from c.args.to c.enter-inside.result.span.now c.read_title.new.span c.in_ok-title.title.now t.0 t.1 t.2 (rows_of c.in_ok-rows.rows.bytes.now) c.read_rows.new.span r.0 r.1 c.requires c.if-place-to.false c.in_ok-check.ensures.answer;
+      parts = parts_ok c.args.bytes c.args.from c.enter-inside.result.span.now c.read_title.new.span c.read_title.result c.read_rows.result c.in_ok-title.title c.in_ok-rows.rows c.enter-inside.ensures.at t.1 t.2 t.3 r.2 c.read_title.ensures.part c.read_rows.ensures.part;
       end = search rules;
     }
