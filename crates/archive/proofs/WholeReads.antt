@@ -1,5 +1,5 @@
 -- Plan after plan: what has been read and what is left, `Reading`, make up the whole archive. And what the answer then says of the bytes, `judged`.
-use Rattle.std.proofs.Common.{◌≡◌, ℕ, zero, suc, ◌+◌, ◌-◌, ◌<◌, ◌≤◌, Bool, true, false, List, [], ◌∷◌, length, get_or, drop, Some, None, Ok, Err, Option, Result, Fits, w8, sym, refl, ap, ◌∙◌, subst, arith, Bor, rules}
+use Rattle.std.proofs.Common.{◌≡◌, ℕ, zero, suc, ◌+◌, ◌-◌, ◌<◌, ◌≤◌, true, false, List, [], ◌∷◌, length, get_or, drop, Some, None, Ok, Err, Option, Result, Fits, w8, sym, refl, ap, ◌∙◌, subst, arith, Bor, rules}
 use Rattle.std.specs.List.{between}
 use Rattle.std.specs.Option.{is_some}
 use Rattle.std.proofs.ByRecursion.{All-from_get_or}
@@ -95,7 +95,7 @@ module _ (bs : List ℕ) (d : Date) (r : Reader) (so : Reading bs d r) where
   ended_at fault e = sym (rest_by (Err fault) e)
 
   pub finished : (o : Option ArchivedPlan) (t : Reader) → false ≡ is_some o → seen_next {E = ArchiveFault} (Ok o) ≡ next_in r.span.at (told r) (left r.bytes.now r.span) → t ≡ stepped {E = ArchiveFault} r (Ok o) → Ok (record { date = d; plans = t.plans }) ≡ summed (read_of bs)
-  finished (Some p) t e h after = absurd (let z : ◌≡◌ {A = Bool} false true = e in let y : ◌≡◌ {A = ℕ} 0 1 = cc in omega arith)
+  finished (Some p) t e h after = cc
   finished None t e h after = let n : t.plans ≡ r.plans + 0 = ap (λ u. u.plans) after ∙ omega arith in ap (λ m. Ok (record { date = d; plans = m })) n ∙ sym (rest_by (Ok None) h)
 
   -- a plan is behind the reader
@@ -119,7 +119,7 @@ module _ (bs : List ℕ) (d : Date) (r : Reader) (so : Reading bs d r) where
 
   pub goes_on : (o : Option ArchivedPlan) (t : Reader) → true ≡ is_some o → seen_next {E = ArchiveFault} (Ok o) ≡ next_in r.span.at (told r) (left r.bytes.now r.span) → t ≡ stepped {E = ArchiveFault} r (Ok o) → Reading bs d t
   goes_on (Some p) t e h after = went_on p t h after
-  goes_on None t e h after = absurd (let y : ◌≡◌ {A = ℕ} 0 1 = cc in omega arith)
+  goes_on None t e h after = let no : ◌≡◌ {A = ℕ} 0 1 = cc in absurd (omega arith)
 
 -- the answer says whether the bytes are an archive's
 judged_by : (bs : List ℕ) → Bytes bs → (x : Result Archive ArchiveFault) → read_of bs ≡ x → Accepted bs (summed x)

@@ -1,4 +1,4 @@
-use Rattle.std.proofs.Common.{◌≡◌, ◌+◌, Ok, Err, sym, ap, ◌∙◌, subst, arith, rules}
+use Rattle.std.proofs.Common.{◌≡◌, ◌+◌, Ok, Err, sym, ap, ◌∙◌, subst, rules}
 use Rattle.std.proofs.lemmas.Result.{err_from_is_err_and}
 use Rattle.storage.specs.Bytes.{rows_of}
 use Rattle.encoding.specs.Format.{title_tag, rows_tag}
@@ -9,15 +9,14 @@ use Rattle.archive.proofs.plans.read_plan.Goals as goal
 use Rattle.archive.proofs.plans.read_plan.Goals.{In_ok-title, In_ok-rows}
 
 -- the title was read, from the front of the plan's content, and the span is behind it
-titled :
+title_is_read :
     (c : In_ok-title) →
     (c.enter-inside.result.span.now ≡ record { at = c.args.from; end = c.args.to }) ×
     (with_content title_tag title_in (left c.args.bytes.now c.enter-inside.result.span.now) ≡ Ok c.in_ok-title.title.now) ×
     (c.read_title.new.span ≡ record { at = c.enter-inside.result.span.now.at + (3 + size_of (left c.args.bytes.now c.enter-inside.result.span.now)); end = c.enter-inside.result.span.now.end }) ×
     (c.read_title.result ≡ Ok c.in_ok-title.title)
-titled c =
-    let ok = granted c.args.from c.read_title.result c.in_field.result c.in_ok-title.title c.in_field.ensures c.in_ok-title.was in
-    (
+title_is_read c =
+    let ok = granted c.args.from c.read_title.result c.in_field.result c.in_ok-title.title c.in_field.ensures c.in_ok-title.was in (
       λ i. record { at = c.enter-inside.ensures.at i; end = c.enter-inside.ensures.end i },
       seen_ok c.read_title.result c.in_ok-title.title _ ok c.read_title.ensures.value,
       moved_ok c.args.bytes.now c.enter-inside.result.span.now c.read_title.new.span c.read_title.result c.in_ok-title.title ok c.read_title.ensures.moved,
@@ -25,14 +24,13 @@ titled c =
     )
 
 -- and so were the rows
-rowed :
+rows_are_read :
     (c : In_ok-rows) →
     (with_content rows_tag rows_in (left c.args.bytes.now c.read_title.new.span) ≡ Ok (rows_of c.in_ok-rows.rows.bytes.now)) ×
     (c.read_rows.new.span ≡ record { at = c.read_title.new.span.at + (3 + size_of (left c.args.bytes.now c.read_title.new.span)); end = c.read_title.new.span.end }) ×
     (c.read_rows.result ≡ Ok c.in_ok-rows.rows)
-rowed c =
-    let ok = granted c.read_title.new.span.at c.read_rows.result c.in_field-2.result c.in_ok-rows.rows c.in_field-2.ensures c.in_ok-rows.was in
-    (
+rows_are_read c =
+    let ok = granted c.read_title.new.span.at c.read_rows.result c.in_field-2.result c.in_ok-rows.rows c.in_field-2.ensures c.in_ok-rows.was in (
       rows_ok c.read_rows.result c.in_ok-rows.rows _ ok c.read_rows.ensures.value,
       moved_ok c.args.bytes.now c.read_title.new.span c.read_rows.new.span c.read_rows.result c.in_ok-rows.rows ok c.read_rows.ensures.moved,
       ok,
@@ -40,12 +38,12 @@ rowed c =
 
 pub returns-in_err-rows : goal.returns-in_err-rows
 returns-in_err-rows c =
-    let t = titled (goal.at.returns-in_err-rows c).In_ok-title in
+    let t = title_is_read (goal.at.returns-in_err-rows c).In_ok-title in
     let p = err_from_is_err_and c.from_residual-in_err-rows.result c.from_residual-in_err-rows.ensures.1 in
     record {
       value =
-        ap seen_plan (p.1 ∙ ap Err p.2) ∙
-        rows_fault c.args.bytes.now c.args.from c.args.to c.enter-inside.result.span.now c.read_title.new.span c.in_ok-title.title.now t.0 t.1 t.2 c.read_rows.result c.in_err-rows.field-0.0 c.read_rows.ensures.value (sym c.in_field-2.ensures ∙ c.in_err-rows.was);
+          ap seen_plan (p.1 ∙ ap Err p.2) ∙
+          rows_fault c.args.bytes.now c.args.from c.args.to c.enter-inside.result.span.now c.read_title.new.span c.in_ok-title.title.now t.0 t.1 t.2 c.read_rows.result c.in_err-rows.field-0.0 c.read_rows.ensures.value (sym c.in_field-2.ensures ∙ c.in_err-rows.was);
       parts = subst (PlanParts c.args.bytes c.args.from) (sym p.1) tt;
       end = search rules;
     }
@@ -53,8 +51,8 @@ returns-in_err-rows c =
 pub returns-then-place-to : goal.returns-then-place-to
 returns-then-place-to c =
     let at = goal.at.returns-then-place-to c in
-    let t = titled at.In_ok-title in
-    let r = rowed at.In_ok-rows in
+    let t = title_is_read at.In_ok-title in
+    let r = rows_are_read at.In_ok-rows in
     record {
       value = left_over c.args.bytes.now c.args.from c.args.to c.enter-inside.result.span.now c.read_title.new.span c.in_ok-title.title.now t.0 t.1 t.2 (rows_of c.in_ok-rows.rows.bytes.now) c.read_rows.new.span r.0 r.1 c.requires c.if-place-to.true;
       parts = tt;
@@ -64,13 +62,13 @@ returns-then-place-to c =
 pub returns-in_err-check : goal.returns-in_err-check
 returns-in_err-check c =
     let at = goal.at.returns-in_err-check c in
-    let t = titled at.In_ok-title in
-    let r = rowed at.In_ok-rows in
+    let t = title_is_read at.In_ok-title in
+    let r = rows_are_read at.In_ok-rows in
     let p = err_from_is_err_and c.from_residual-in_err-check.result c.from_residual-in_err-check.ensures.1 in
     record {
       value =
-        ap seen_plan (p.1 ∙ ap Err p.2) ∙
-        unsound c.args.bytes.now c.args.from c.args.to c.enter-inside.result.span.now c.read_title.new.span c.in_ok-title.title.now t.0 t.1 t.2 (rows_of c.in_ok-rows.rows.bytes.now) c.read_rows.new.span r.0 r.1 c.requires c.if-place-to.false _ c.in_err-check.ensures.answer;
+          ap seen_plan (p.1 ∙ ap Err p.2) ∙
+          unsound c.args.bytes.now c.args.from c.args.to c.enter-inside.result.span.now c.read_title.new.span c.in_ok-title.title.now t.0 t.1 t.2 (rows_of c.in_ok-rows.rows.bytes.now) c.read_rows.new.span r.0 r.1 c.requires c.if-place-to.false _ c.in_err-check.ensures.answer;
       parts = subst (PlanParts c.args.bytes c.args.from) (sym p.1) tt;
       end = search rules;
     }
@@ -78,8 +76,8 @@ returns-in_err-check c =
 pub returns : goal.returns
 returns c =
     let at = goal.at.returns c in
-    let t = titled at.In_ok-title in
-    let r = rowed at.In_ok-rows in
+    let t = title_is_read at.In_ok-title in
+    let r = rows_are_read at.In_ok-rows in
     record {
       value = sound c.args.bytes.now c.args.from c.args.to c.enter-inside.result.span.now c.read_title.new.span c.in_ok-title.title.now t.0 t.1 t.2 (rows_of c.in_ok-rows.rows.bytes.now) c.read_rows.new.span r.0 r.1 c.requires c.if-place-to.false c.in_ok-check.ensures.answer;
       parts = parts_ok c.args.bytes c.args.from c.enter-inside.result.span.now c.read_title.new.span c.read_title.result c.read_rows.result c.in_ok-title.title c.in_ok-rows.rows c.enter-inside.ensures.at t.1 t.2 t.3 r.2 c.read_title.ensures.part c.read_rows.ensures.part;
