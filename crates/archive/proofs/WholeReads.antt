@@ -1,4 +1,4 @@
--- Plan after plan: what has been read and what is left, `Reading`, make up the whole archive. And what the answer then says of the bytes, `judged`.
+-- Plan after plan: what has been read and what is left, `ReadSoFar`, make up the whole archive. And what the answer then says of the bytes, `judged`.
 use Rattle.std.proofs.Common.{◌≡◌, ℕ, zero, suc, ◌+◌, ◌-◌, ◌<◌, ◌≤◌, true, false, List, [], ◌∷◌, length, get_or, drop, Some, None, Ok, Err, Option, Result, Fits, w8, sym, refl, ap, ◌∙◌, subst, arith, Bor, rules}
 use Rattle.std.specs.List.{between}
 use Rattle.std.specs.Option.{is_some}
@@ -17,7 +17,7 @@ use Rattle.archive.specs.declared.plans.ArchivedPlan.{ArchivedPlan}
 use Rattle.archive.specs.declared.decoding.Reader.{Reader}
 use Rattle.archive.specs.declared.decoding.Contents.{Contents}
 use Rattle.archive.specs.Fields.{left, plan_seen}
-use Rattle.archive.specs.Reading.{Accepted, Opened, behind, seen_next, stepped, summed, told}
+use Rattle.archive.specs.Decoding.{Accepted, Opened, behind, seen_next, stepped, summed, told}
 use Rattle.archive.proofs.Framing.{length_due}
 use Rattle.archive.proofs.PlanReads.{left_past}
 
@@ -27,7 +27,7 @@ ended_with d k (Ok ps) = Ok (record { date = d; plans = k + length ps })
 ended_with d k (Err fault) = Err fault
 
 -- the date d is read, and so are the plans before the reader's place: the others decide what the whole is
-pub record Reading (bs : List ℕ) (d : Date) (r : Reader) : Type 0 where
+pub record ReadSoFar (bs : List ℕ) (d : Date) (r : Reader) : Type 0 where
   pub bytes : r.bytes.now ≡ bs
   pub end : r.span.end ≡ length bs
   pub few : r.plans ≤ r.span.at
@@ -41,12 +41,12 @@ with_date : (d : Date) (x : Result (List Plan) ArchiveFault) → summed (and_the
 with_date d (Ok ps) = let n : length ps ≡ 0 + length ps = omega arith in ap (λ k. Ok (record { date = d; plans = k })) n
 with_date d (Err fault) = refl
 
-pub opened : (b : Bor (List ℕ)) (d : Date) (r : Reader) → Opened b (Ok (d, r)) → Reading b.now d r
+pub opened : (b : Bor (List ℕ)) (d : Date) (r : Reader) → Opened b (Ok (d, r)) → ReadSoFar b.now d r
 opened b d r h =
     let bs = b.now in
     let n : length bs ≡ length bs - 0 = omega arith in
     let start : Reader = record { bytes = b; span = record { at = 3 + size_of bs; end = length bs }; plans = 0 } in
-    subst (Reading bs d) (sym h.1) (record {
+    subst (ReadSoFar bs d) (sym h.1) (record {
       bytes = refl;
       end = refl;
       few = omega arith;
@@ -71,7 +71,7 @@ counted_on : (d : Date) (k : ℕ) (plan : Plan) (x : Result (List Plan) ArchiveF
 counted_on d k plan (Ok ps) = let n : k + suc (length ps) ≡ (k + 1) + length ps = omega arith in ap (λ m. Ok (record { date = d; plans = m })) n
 counted_on d k plan (Err fault) = refl
 
-module _ (bs : List ℕ) (d : Date) (r : Reader) (so : Reading bs d r) where
+module _ (bs : List ℕ) (d : Date) (r : Reader) (so : ReadSoFar bs d r) where
   -- what is left, and what comes next there
   abbrev due : List ℕ
   due = left bs r.span
@@ -99,7 +99,7 @@ module _ (bs : List ℕ) (d : Date) (r : Reader) (so : Reading bs d r) where
   finished None t e h after = let n : t.plans ≡ r.plans + 0 = ap (λ u. u.plans) after ∙ omega arith in ap (λ m. Ok (record { date = d; plans = m })) n ∙ sym (rest_by (Ok None) h)
 
   -- a plan is behind the reader
-  went_on : (p : ArchivedPlan) (t : Reader) → seen_next {E = ArchiveFault} (Ok (Some p)) ≡ next_in r.span.at (told r) (left r.bytes.now r.span) → t ≡ stepped {E = ArchiveFault} r (Ok (Some p)) → Reading bs d t
+  went_on : (p : ArchivedPlan) (t : Reader) → seen_next {E = ArchiveFault} (Ok (Some p)) ≡ next_in r.span.at (told r) (left r.bytes.now r.span) → t ≡ stepped {E = ArchiveFault} r (Ok (Some p)) → ReadSoFar bs d t
   went_on p t h after =
       let k : told r + 1 ≡ r.plans + 1 = ap (λ m. m + 1) told_is in
       let s : Span = behind bs r.span in
@@ -107,7 +107,7 @@ module _ (bs : List ℕ) (d : Date) (r : Reader) (so : Reading bs d r) where
       let m : length bs - r.plans - 1 ≡ length bs - (r.plans + 1) = omega arith in
       let j : suc r.plans ≡ r.plans + 1 = omega arith in
       let there : t ≡ record { bytes = r.bytes; span = s; plans = r.plans + 1 } = after ∙ (λ i. record { bytes = r.bytes; span = place i; plans = k i }) in
-      subst (Reading bs d) (sym there) (record {
+      subst (ReadSoFar bs d) (sym there) (record {
         bytes = so.bytes;
         end = so.end;
         few = omega (arith, so.few);
@@ -117,7 +117,7 @@ module _ (bs : List ℕ) (d : Date) (r : Reader) (so : Reading bs d r) where
             ∙ (λ i. ended_with d (r.plans + 1) (plans_in (m i) (r.span.at + (3 + size_of due)) (j i) (sym (left_past bs r.span s refl) i)));
       })
 
-  pub goes_on : (o : Option ArchivedPlan) (t : Reader) → true ≡ is_some o → seen_next {E = ArchiveFault} (Ok o) ≡ next_in r.span.at (told r) (left r.bytes.now r.span) → t ≡ stepped {E = ArchiveFault} r (Ok o) → Reading bs d t
+  pub goes_on : (o : Option ArchivedPlan) (t : Reader) → true ≡ is_some o → seen_next {E = ArchiveFault} (Ok o) ≡ next_in r.span.at (told r) (left r.bytes.now r.span) → t ≡ stepped {E = ArchiveFault} r (Ok o) → ReadSoFar bs d t
   goes_on (Some p) t e h after = went_on p t h after
   goes_on None t e h after = let no : ◌≡◌ {A = ℕ} 0 1 = cc in absurd (omega arith)
 

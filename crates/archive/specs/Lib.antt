@@ -1,3 +1,3 @@
 pub mod Writing
 pub mod Fields
-pub mod Reading
+pub mod Decoding

@@ -3,7 +3,7 @@ ghost use Rattle.std.specs.Prelude.{◌≡◌, ℕ, ◌+◌, ◌≤◌, length};
 ghost use Rattle.encoding.specs.Format.{date_tag};
 ghost use Rattle.encoding.specs.Read.{at_field, count_in, date_in, in_plan, next_in, read_of};
 ghost use Rattle.archive.specs.Fields.{left, Moved, with_content};
-ghost use Rattle.archive.specs.Reading.{Accepted, NextMoved, NextParts, Opened, seen_next, stepped, summed, told};
+ghost use Rattle.archive.specs.Decoding.{Accepted, NextMoved, NextParts, Opened, seen_next, stepped, summed, told};
 
 use crate::fields::{Due, Field, read_field};
 use crate::plans::{ArchivedPlan, read_plan};

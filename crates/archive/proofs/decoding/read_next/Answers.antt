@@ -4,7 +4,7 @@ use Rattle.encoding.specs.Read.{count_in}
 use Rattle.encoding.proofs.Unframed.{at_field_ok, in_plan_ok}
 use Rattle.archive.specs.declared.fields.Due.TheVariants.{PlanOrLast}
 use Rattle.archive.specs.Fields.{passed, FieldRead}
-use Rattle.archive.specs.Reading.{seen_next}
+use Rattle.archive.specs.Decoding.{seen_next}
 use Rattle.archive.proofs.NextReads.{field_read, plan_tagged, last_got, plan_fault, plan_read, last_fault, last_over, last_read}
 use Rattle.archive.proofs.decoding.read_next.Goals as goal
 use Rattle.archive.proofs.decoding.read_next.Goals.{In_ok-at_field, In_ok-at_field-in-Last}
