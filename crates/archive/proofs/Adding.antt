@@ -5,7 +5,7 @@ use Rattle.std.proofs.lemmas.Bool.Decides.{nat_tests}
 use Rattle.plane.specs.declared.halfsegment.Halfsegment.{Halfsegment}
 use Rattle.storage.specs.Bytes.{row_bytes}
 use Rattle.storage.specs.Rows.{row_at}
-use Rattle.storage.proofs.Rows.{row_at_read}
+use Rattle.storage.proofs.RowLists.{row_at_read}
 use Rattle.region.specs.declared.refusals.CheckRefusal.{CheckRefusal}
 use Rattle.region.specs.Check.{check_of}
 use Rattle.encoding.proofs.RowLists.{length_rows_content}

@@ -6,7 +6,7 @@ use Rattle.plane.specs.declared.halfsegment.Halfsegment.{Halfsegment}
 use Rattle.storage.specs.declared.interface.NoSuchPlace.{NoSuchPlace}
 use Rattle.storage.specs.Rows.{row_at, no_such_place}
 use Rattle.storage.specs.Bytes.{bytes_row, rows_of, row_at_byte}
-use Rattle.storage.proofs.Rows.{row_at_in, row_at_out}
+use Rattle.storage.proofs.RowLists.{row_at_in, row_at_out}
 use Rattle.storage.proofs.RowBytes.{length_rows_of, get_or_rows_of}
 
 pub row_read : (bs : List ℕ) (i : ℕ) (o : Option Halfsegment) (r : Result Halfsegment NoSuchPlace) → o ≡ bytes_row bs i → r ≡ ok_or o no_such_place → r ≡ row_at (rows_of bs) i

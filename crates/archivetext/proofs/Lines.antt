@@ -6,7 +6,7 @@ use Rattle.std.proofs.ByRecursion.{All-append, All-get_or, All-weaker}
 use Rattle.std.proofs.lemmas.List.{append_assoc}
 use Rattle.std.proofs.lemmas.Bool.{and_parts, eq-eqb, ne_eqb, leb-true}
 use Rattle.plane.specs.declared.halfsegment.Halfsegment.{Halfsegment}
-use Rattle.storage.proofs.Rows.{Fits32}
+use Rattle.storage.proofs.RowLists.{Fits32}
 use Rattle.plantext.specs.Text.{pieces, row_by, row_of_fields, row_of_line}
 use Rattle.plantext.proofs.Fields.{pieces_whole}
 use Rattle.encoding.specs.Format.{printable, valid_title}

@@ -5,7 +5,7 @@ use Rattle.std.proofs.lemmas.List.{append_assoc, length-append}
 use Rattle.std.proofs.lemmas.Bool.{le-leb, eq-eqb, and_from, cond-true}
 use Rattle.plane.specs.declared.halfsegment.Halfsegment.{Halfsegment}
 use Rattle.storage.specs.Bytes.{rows_of}
-use Rattle.storage.proofs.Rows.{Fits32}
+use Rattle.storage.proofs.RowLists.{Fits32}
 use Rattle.region.specs.declared.refusals.CheckRefusal.{CheckRefusal}
 use Rattle.region.specs.Check.{check_of}
 use Rattle.region.proofs.Verdicts.{accepts}

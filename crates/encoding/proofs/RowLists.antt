@@ -9,7 +9,7 @@ use Rattle.plane.specs.declared.halfsegment.Halfsegment.{Halfsegment}
 use Rattle.plane.specs.Points.{coordinate, in_range, same_point}
 use Rattle.plane.specs.Rows.{fit}
 use Rattle.storage.specs.Bytes.{row_at_byte, row_bytes, rows_of}
-use Rattle.storage.proofs.Rows.{Fits32}
+use Rattle.storage.proofs.RowLists.{Fits32}
 use Rattle.storage.proofs.RowBytes.{length_rows_of, get_or_rows_of, row_same, row_back}
 use Rattle.region.specs.declared.refusals.CheckRefusal.{CheckRefusal}
 use Rattle.region.specs.Check.{no_row, row, each_answer, and_then, check_of}

@@ -9,7 +9,7 @@ use Rattle.plane.specs.declared.halfsegment.Halfsegment.{Halfsegment}
 use Rattle.plane.specs.Points.{same_point}
 use Rattle.plane.specs.Rows.{fit, same_row, twin, comes_before}
 use Rattle.storage.specs.Rows.{row_at}
-use Rattle.storage.proofs.Rows.{row_at_read}
+use Rattle.storage.proofs.RowLists.{row_at_read}
 use Rattle.region.specs.declared.refusals.RowFault.{RowFault}
 use Rattle.region.specs.declared.refusals.CheckRefusal.{CheckRefusal}
 use Rattle.region.specs.declared.refusals.CheckRefusal.TheVariants.{Unclosed}

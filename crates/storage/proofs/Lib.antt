@@ -1,4 +1,4 @@
-pub mod Rows
+pub mod RowLists
 pub mod Moves
 pub mod Entries
 pub mod RowBytes

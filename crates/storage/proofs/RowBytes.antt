@@ -9,7 +9,7 @@ use Rattle.std.proofs.lemmas.List.{same_lists, places, length-take-le}
 use Rattle.std.proofs.lemmas.Bool.{cases_order, cases_lt}
 use Rattle.std.proofs.lemmas.Int.{to_z-of_z}
 use Rattle.plane.specs.declared.halfsegment.Halfsegment.{Halfsegment}
-use Rattle.storage.proofs.Rows.{Fits32}
+use Rattle.storage.proofs.RowLists.{Fits32}
 use Rattle.storage.specs.Bytes.{word_at, row_at_byte, word_bytes, row_bytes, rows_of}
 
 pub length_rows_of : (bs : List ℕ) → length (rows_of bs) ≡ length bs / 16

@@ -8,7 +8,7 @@ use Rattle.plane.specs.declared.halfsegment.Halfsegment.{Halfsegment}
 use Rattle.storage.specs.declared.interface.NoSuchPlace.{NoSuchPlace}
 use Rattle.storage.specs.declared.interface.InsertRefusal.{InsertRefusal}
 use Rattle.storage.specs.Rows.{row_at, Inserted, Removed, after}
-use Rattle.storage.proofs.Rows.{Fits32}
+use Rattle.storage.proofs.RowLists.{Fits32}
 use Rattle.storage.specs.Shift.{moved, moved_back}
 
 there : (x d : ℤ) → SFits w32 x → int_wrap w32 (int_wrap w32 (x -ℤ d) +ℤ d) ≡ x

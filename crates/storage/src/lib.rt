@@ -7,10 +7,12 @@ mod gaps;
 mod interface;
 mod kept;
 mod records;
+mod rows;
 mod shifted;
 
 pub use bytes::{ByteStore, row_at, row_bytes};
 pub use equality::same;
 pub use interface::{InsertRefusal, NoSuchPlace, Source, Store};
 pub use records::RecordStore;
+pub use rows::Rows;
 pub use shifted::ShiftedStore;

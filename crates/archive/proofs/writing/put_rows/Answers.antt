@@ -1,5 +1,5 @@
 use Rattle.std.proofs.Common.{arith}
-use Rattle.storage.proofs.Rows.{row_at_past}
+use Rattle.storage.proofs.RowLists.{row_at_past}
 use Rattle.archive.proofs.Patches.{none}
 use Rattle.archive.proofs.Adding.{row_more, rows_all}
 use Rattle.archive.proofs.writing.put_rows.Goals as goal

@@ -1,5 +1,5 @@
 use Rattle.std.proofs.Common.{length, ◌∙◌, arith}
-use Rattle.storage.proofs.Rows.{row_at_past}
+use Rattle.storage.proofs.RowLists.{row_at_past}
 use Rattle.region.specs.declared.refusals.CheckRefusal.TheVariants.{Unclosed}
 use Rattle.region.specs.Check.{row, uneven}
 use Rattle.region.proofs.Passes.{more, refused_none, uneven_is, uneven_found}

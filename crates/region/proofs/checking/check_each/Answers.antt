@@ -1,6 +1,6 @@
 use Rattle.std.proofs.Common.{arith}
 use Rattle.std.proofs.lemmas.Result.{err_from_is_err_and}
-use Rattle.storage.proofs.Rows.{row_at_past}
+use Rattle.storage.proofs.RowLists.{row_at_past}
 use Rattle.region.proofs.Passes.{each_none, each_found, each_more}
 use Rattle.region.proofs.checking.check_each.Goals as goal
 

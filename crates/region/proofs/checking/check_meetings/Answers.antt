@@ -3,7 +3,7 @@ use Rattle.std.proofs.lemmas.Bool.{cases_lt}
 use Rattle.algebra.proofs.Members.{apart}
 use Rattle.plane.specs.Rows.{left, segment_of}
 use Rattle.plane.specs.Meeting.{improper}
-use Rattle.storage.proofs.Rows.{row_at_past}
+use Rattle.storage.proofs.RowLists.{row_at_past}
 use Rattle.region.specs.Check.{row}
 use Rattle.region.proofs.Passes.{read}
 use Rattle.region.proofs.Meetings.{ClearOfLater, met, clear_rest, clear_more, all_more, further, meetings_none, meetings_found}

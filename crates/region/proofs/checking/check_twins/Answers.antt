@@ -1,5 +1,5 @@
 use Rattle.std.proofs.Common.{not, length, ap, ◌∙◌, arith}
-use Rattle.storage.proofs.Rows.{row_at_past}
+use Rattle.storage.proofs.RowLists.{row_at_past}
 use Rattle.region.specs.declared.refusals.CheckRefusal.TheVariants.{NoTwin}
 use Rattle.region.specs.Check.{twinless}
 use Rattle.region.proofs.Passes.{more, refused_none, refused_found, twinless_is}

@@ -1,6 +1,6 @@
 use Rattle.std.proofs.Common.{sym, ap, ◌∙◌, arith}
 use Rattle.plane.specs.Rows.{same_row}
-use Rattle.storage.proofs.Rows.{row_at_past}
+use Rattle.storage.proofs.RowLists.{row_at_past}
 use Rattle.region.specs.Check.{row}
 use Rattle.region.proofs.Passes.{read, more, stands_none, stands_at}
 use Rattle.region.proofs.checking.has_row.Goals as goal

@@ -1,7 +1,7 @@
 use Rattle.std.proofs.Common.{sym, ap, ◌∙◌, arith}
 use Rattle.std.proofs.lemmas.List.{take_all}
 use Rattle.algebra.specs.Parity.{odd}
-use Rattle.storage.proofs.Rows.{row_at_past}
+use Rattle.storage.proofs.RowLists.{row_at_past}
 use Rattle.region.specs.Plans.{degree}
 use Rattle.region.proofs.Passes.{odd_hit, odd_missed}
 use Rattle.region.proofs.checking.is_odd_corner.Goals as goal

@@ -1,5 +1,5 @@
 use Rattle.std.proofs.Common.{arith, rules}
-use Rattle.storage.proofs.Rows.{row_at_past}
+use Rattle.storage.proofs.RowLists.{row_at_past}
 use Rattle.storage.proofs.Fronts.{same_more, same_all}
 use Rattle.storage.proofs.equality.same.Goals as goal
 

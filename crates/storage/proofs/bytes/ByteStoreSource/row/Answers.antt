@@ -2,7 +2,7 @@ use Rattle.std.proofs.Common.{Ok, sym, ap, ◌∙◌, arith, rules}
 use Rattle.std.proofs.lemmas.List.{places}
 use Rattle.storage.specs.Entries.{entries}
 use Rattle.storage.proofs.Entries.{length_entries}
-use Rattle.storage.proofs.Rows.{row_at_in, row_at_out}
+use Rattle.storage.proofs.RowLists.{row_at_in, row_at_out}
 use Rattle.storage.proofs.RowBytes.{length_rows_of, get_or_rows_of, row_between}
 use Rattle.storage.proofs.bytes.ByteStoreSource.row.Goals as goal
 

@@ -1,7 +1,7 @@
 use Rattle.std.proofs.Common.{◌≡◌, ◌*◌, ◌/◌, length, take, refl, ap, ◌∙◌, arith, rules}
 use Rattle.storage.specs.Entries.{entries, over}
 use Rattle.storage.proofs.Entries.{length_entries, over_entries}
-use Rattle.storage.proofs.Rows.{Fits32, insert_stands, insert_no_place, insert_no_room}
+use Rattle.storage.proofs.RowLists.{Fits32, insert_stands, insert_no_place, insert_no_room}
 use Rattle.storage.proofs.RowBytes.{length_rows_of, insert_rows}
 use Rattle.storage.proofs.bytes.ByteStoreStore.insert.Goals as goal
 

@@ -1,7 +1,7 @@
 use Rattle.std.proofs.Common.{refl, ap, ◌∙◌, arith}
 use Rattle.storage.specs.Entries.{entries}
 use Rattle.storage.proofs.Entries.{length_entries, over_entries}
-use Rattle.storage.proofs.Rows.{remove_stands, remove_no_place}
+use Rattle.storage.proofs.RowLists.{remove_stands, remove_no_place}
 use Rattle.storage.specs.Bytes.{rows_of}
 use Rattle.storage.proofs.RowBytes.{length_rows_of, rows_of_out}
 use Rattle.storage.proofs.bytes.ByteStoreStore.remove.Goals as goal

@@ -2,7 +2,7 @@ use Rattle.std.proofs.Common.{◌≡◌, get_or, Ok, sym, ap, ◌∙◌, arith, 
 use Rattle.std.proofs.lemmas.List.{places}
 use Rattle.storage.specs.Entries.{entries}
 use Rattle.storage.proofs.Entries.{length_entries}
-use Rattle.storage.proofs.Rows.{row_at_in, row_at_out}
+use Rattle.storage.proofs.RowLists.{row_at_in, row_at_out}
 use Rattle.storage.proofs.records.RecordStoreSource.row.Goals as goal
 
 pub returns-then-i-len : goal.returns-then-i-len

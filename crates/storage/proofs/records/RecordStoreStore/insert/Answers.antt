@@ -1,6 +1,6 @@
 use Rattle.std.proofs.Common.{refl, arith}
 use Rattle.storage.proofs.Entries.{length_entries, over_entries}
-use Rattle.storage.proofs.Rows.{insert_no_place, insert_no_room}
+use Rattle.storage.proofs.RowLists.{insert_no_place, insert_no_room}
 use Rattle.storage.proofs.records.RecordStoreStore.insert.Goals as goal
 
 pub returns-then-i-count : goal.returns-then-i-count

@@ -1,6 +1,6 @@
 use Rattle.std.proofs.Common.{refl, arith}
 use Rattle.storage.proofs.Entries.{length_entries, over_entries}
-use Rattle.storage.proofs.Rows.{remove_stands, remove_no_place, removed_is}
+use Rattle.storage.proofs.RowLists.{remove_stands, remove_no_place, removed_is}
 use Rattle.storage.proofs.records.RecordStoreStore.remove.Goals as goal
 
 pub returns-then-i-len : goal.returns-then-i-len

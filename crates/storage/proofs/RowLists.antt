@@ -62,3 +62,9 @@ pub row_at_past : (xs : List Halfsegment) (i : ℕ) (f : NoSuchPlace) → Err f 
 row_at_past [] i f e = omega arith
 row_at_past (x ∷ xs) zero f e = absurd (grind arith)
 row_at_past (x ∷ xs) (suc i) f e = let h = row_at_past xs i f e in omega arith
+
+-- the row that is read is the first of those that are left
+pub row_at_next : (xs : List Halfsegment) (i : ℕ) (r : Halfsegment) → Ok r ≡ row_at xs i → drop i xs ≡ r ∷ drop (suc i) xs
+row_at_next [] i r e = absurd (grind arith)
+row_at_next (x ∷ xs) zero r e = cc
+row_at_next (x ∷ xs) (suc i) r e = row_at_next xs i r e
