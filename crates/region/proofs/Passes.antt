@@ -13,17 +13,14 @@ use Rattle.std.specs.Option.{MatchOption, option_map}
 use Rattle.std.specs.Result.{MatchResult}
 use Rattle.std.proofs.Math.Seq.{drop-cons}
 use Rattle.algebra.specs.Members.{any}
-use Rattle.algebra.specs.Parity.{odd, times}
+use Rattle.algebra.specs.Parity.{times}
 use Rattle.algebra.proofs.Members.{Case, holds, fails, case}
 use Rattle.plane.specs.declared.halfsegment.Halfsegment.{Halfsegment}
 use Rattle.plane.specs.Rows.{fit, comes_before}
-use Rattle.storage.specs.Rows.{row_at}
-use Rattle.storage.proofs.RowLists.{row_at_read}
 use Rattle.region.specs.declared.refusals.RowFault.{RowFault}
 use Rattle.region.specs.declared.refusals.CheckRefusal.{CheckRefusal}
-use Rattle.region.specs.declared.refusals.CheckRefusal.TheVariants.{BadRow, Unsorted, Unclosed}
-use Rattle.region.specs.Plans.{degree}
-use Rattle.region.specs.Check.{first, no_row, row, misplaced, uneven, refused_at, order_answer, corners_answer, row_fault, faulty, placed, each_answer}
+use Rattle.region.specs.declared.refusals.CheckRefusal.TheVariants.{BadRow, Unsorted}
+use Rattle.region.specs.Check.{first, no_row, row, misplaced, refused_at, order_answer, row_fault, faulty, placed, each_answer}
 use Rattle.region.specs.Verdict.{Misfit, Nowhere}
 use Rattle.region.proofs.Firsts.{Sought, nowhere, somewhere, sought, first_none, first_at}
 
@@ -34,10 +31,6 @@ any_is test (a ∷ zs) = ap (λ b. test a || b) (any_is test zs)
 
 pub times_is : {A : Type 0} (test : A → Bool) (zs : List A) → times test zs ≡ count_by test zs
 times_is test zs = is_count_by (times test) test refl (λ x xs. ap (λ n. cond (test x) n (times test xs)) (omega arith)) zs
-
--- the row that was read at i
-pub read : (rows : List Halfsegment) (i : ℕ) (h : Halfsegment) → Ok h ≡ row_at rows i → row rows i ≡ h
-read rows i h e = row_at_read rows i h no_row e
 
 -- where no row misfits, each fits
 pub fits_at : (rows : List Halfsegment) → Nowhere (length rows) (Misfit rows) → (i : ℕ) → i < length rows → fit (row rows i) ≡ true
@@ -62,18 +55,20 @@ refused_none test refusal n i l h = sym (ap (λ o. refused_at o refusal) (first_
 pub refused_found : (test : ℕ → Bool) (refusal : ℕ → CheckRefusal) (n i : ℕ) → i < n → test i ≡ true → ((k : ℕ) → k < i → test k ≡ false) → Err (refusal i) ≡ refused_at (first test n) refusal
 refused_found test refusal n i l e h = sym (ap (λ o. refused_at o refusal) (first_at test n i l e h))
 
--- the row at i is the first of those from i on, and the others follow
-pub row_from : (rows : List Halfsegment) (i : ℕ) (h : Halfsegment) (left : List Halfsegment) → drop i rows ≡ h ∷ left → row rows i ≡ h
-row_from rows i h left e =
-    let inside : length rows - i ≡ suc (length left) = sym (length-drop i rows) ∙ ap length e in
-    let first : get_or rows i no_row ∷ drop (suc i) rows ≡ h ∷ left = sym (drop-cons rows i no_row (omega arith)) ∙ e in
-    cc
+-- h is the row at i, and those behind it are left
+pub record Front (rows : List Halfsegment) (i : ℕ) (h : Halfsegment) (left : List Halfsegment) : Type 0 where
+  pub within : i < length rows
+  pub is : row rows i ≡ h
+  pub rest : drop (i + 1) rows ≡ left
 
-pub rest_from : (rows : List Halfsegment) (i : ℕ) (h : Halfsegment) (left : List Halfsegment) → drop i rows ≡ h ∷ left → drop (i + 1) rows ≡ left
-rest_from rows i h left e =
-    let inside : length rows - i ≡ suc (length left) = sym (length-drop i rows) ∙ ap length e in
+pub front : (rows : List Halfsegment) (i : ℕ) (h : Halfsegment) (left : List Halfsegment) → drop i rows ≡ h ∷ left → Front rows i h left
+front rows i h left e =
+    let count : length rows - i ≡ suc (length left) = sym (length-drop i rows) ∙ ap length e in
     let first : get_or rows i no_row ∷ drop (suc i) rows ≡ h ∷ left = sym (drop-cons rows i no_row (omega arith)) ∙ e in
-    rw (add-one i) cc
+    record { within = omega arith; is = cc; rest = rw (add-one i) cc }
+
+pub past : (rows : List Halfsegment) (i : ℕ) → drop i rows ≡ [] → length rows ≤ i
+past rows i e = let none : length rows - i ≡ 0 = sym (length-drop i rows) ∙ ap length e in omega arith
 
 -- a search through a list for a test, as a search through places for what it says there
 module _ {A : Type 0} (test : A → Bool) (zs : List A) (d : A) (at : ℕ → Bool) (same : (k : ℕ) → k < length zs → at k ≡ test (get_or zs k d)) where
@@ -146,12 +141,12 @@ module _ (rows : List Halfsegment) where
       go : Sought (misplaced rows) (length rows) → r ≡ order_answer rows
       go (nowhere q none) =
           subst told (ap (λ t. cond t (Some (length pairs)) None) (le-ltb (length pairs) (length pairs) (omega arith)))
-              (at (length pairs) (position_or_len_is test pairs (length pairs) (no_row, no_row) (omega arith) (λ k l. test_at k (omega (arith, pairs_count)) ∙ none (suc k) (omega (arith, pairs_count))) (λ l. absurd (omega arith))))
+          (at (length pairs) (position_or_len_is test pairs (length pairs) (no_row, no_row) (omega arith) (λ k l. test_at k (omega (arith, pairs_count)) ∙ none (suc k) (omega (arith, pairs_count))) (λ l. absurd (omega arith))))
           ∙ ap (λ o. refused_at o Unsorted) (sym q)
       go (somewhere zero q l hit none) = absurd (grind arith)
       go (somewhere (suc i) q l hit none) =
           subst told (ap (λ t. cond t (Some i) None) (lt-ltb i (length pairs) (omega (arith, pairs_count))))
-              (at i (position_or_len_is test pairs i (no_row, no_row) (omega (arith, pairs_count)) (λ k m. test_at k (omega arith) ∙ none (suc k) (omega arith)) (λ _. test_at i (omega arith) ∙ hit)))
+          (at i (position_or_len_is test pairs i (no_row, no_row) (omega (arith, pairs_count)) (λ k m. test_at k (omega arith) ∙ none (suc k) (omega arith)) (λ _. test_at i (omega arith) ∙ hit)))
           ∙ ap (λ n. Err (Unsorted n)) (add-one i) ∙ ap (λ o. refused_at o Unsorted) (sym q)
 
 -- the answer of one row's test, with the row's place
@@ -168,9 +163,7 @@ module _ (rows : List Halfsegment) where
   each_of o = elim o [ None ↦ Ok tt | Some i ↦ placed i (row_fault (row rows i)) ]
 
   pub each_none : (i : ℕ) → drop i rows ≡ [] → ((k : ℕ) → k < i → each_test k ≡ false) → Ok tt ≡ each_answer rows
-  each_none i none h =
-      let past : length rows - i ≡ 0 = sym (length-drop i rows) ∙ ap length none in
-      sym (ap each_of (first_none each_test (length rows) (λ k m. h k (omega arith))))
+  each_none i none h = sym (ap each_of (first_none each_test (length rows) (λ k m. h k (omega (arith, past rows i none)))))
 
   fault_is : (i : ℕ) (t : Result Unit RowFault) (e : CheckRefusal) → Err e ≡ placed i t → faulty t ≡ true
   fault_is i (Ok _) e q = absurd (grind arith)
@@ -180,12 +173,10 @@ module _ (rows : List Halfsegment) where
   no_fault i (Ok _) q = refl
   no_fault i (Err f) q = absurd (grind arith)
 
-  pub each_found : (i : ℕ) (h : Halfsegment) (left : List Halfsegment) (e : CheckRefusal) → drop i rows ≡ h ∷ left → Err e ≡ placed i (row_fault h) → ((k : ℕ) → k < i → each_test k ≡ false) → Err e ≡ each_answer rows
+  pub each_found : (i : ℕ) (h : Halfsegment) (left : List Halfsegment) (e : CheckRefusal) → Front rows i h left → Err e ≡ placed i (row_fault h) → ((k : ℕ) → k < i → each_test k ≡ false) → Err e ≡ each_answer rows
   each_found i h left e here fault none =
-      let inside : length rows - i ≡ suc (length left) = sym (length-drop i rows) ∙ ap length here in
-      let is : row_fault h ≡ row_fault (row rows i) = ap row_fault (sym (row_from rows i h left here)) in
-      fault ∙ ap (placed i) is ∙ sym (ap each_of (first_at each_test (length rows) i (omega arith) (ap faulty (sym is) ∙ fault_is i (row_fault h) e fault) none))
+      let is : row_fault h ≡ row_fault (row rows i) = ap row_fault (sym here.is) in
+      fault ∙ ap (placed i) is ∙ sym (ap each_of (first_at each_test (length rows) i here.within (ap faulty (sym is) ∙ fault_is i (row_fault h) e fault) none))
 
-  pub each_more : (i : ℕ) (h : Halfsegment) (left : List Halfsegment) → drop i rows ≡ h ∷ left → Ok tt ≡ placed i (row_fault h) → ((k : ℕ) → k < i → each_test k ≡ false) → (drop (i + 1) rows ≡ left) × ((k : ℕ) → k < i + 1 → each_test k ≡ false)
-  each_more i h left here fits none =
-      (rest_from rows i h left here, more each_test i none (ap (λ x. faulty (row_fault x)) (row_from rows i h left here) ∙ no_fault i (row_fault h) fits))
+  pub each_more : (i : ℕ) (h : Halfsegment) (left : List Halfsegment) → Front rows i h left → Ok tt ≡ placed i (row_fault h) → ((k : ℕ) → k < i → each_test k ≡ false) → (k : ℕ) → k < i + 1 → each_test k ≡ false
+  each_more i h left here fits none = more each_test i none (ap (λ x. faulty (row_fault x)) here.is ∙ no_fault i (row_fault h) fits)

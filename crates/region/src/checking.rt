@@ -65,16 +65,15 @@ fn check_twins<S: Source>(s: &S) -> Result<(), CheckRefusal>
 /// Whether no two segments meet improperly. Each segment is met at its left row, and once a left row begins further
 /// right than a segment ends, so do all later ones.
 fn check_meetings<S: Source>(s: &S) -> Result<(), CheckRefusal>
-    requires { (Nowhere (length (S.rows s.now)) (Misfit (S.rows s.now))) × ((Rising (S.rows s.now)) × (Nowhere (length (S.rows s.now)) (Twinless (S.rows s.now)))) }
+    requires fits { Nowhere (length (S.rows s.now)) (Misfit (S.rows s.now)) }
+    requires rising { Rising (S.rows s.now) }
+    requires twins { Nowhere (length (S.rows s.now)) (Twinless (S.rows s.now)) }
     ensures { result ≡ meetings_answer (S.rows s.now) }
 {
-    let n = s.count();
     let mut found = Ok(());
-    'search: for i in 0..n {
-        let Ok(h) = s.row(i) else { break 'search };
+    'search: for (i, h) in Rows::of(s).enumerate() {
         let l = h.segment();
-        for j in i + 1..n {
-            let Ok(g) = s.row(j) else { break 'search };
+        for g in Rows::from_place(s, i + 1) {
             if g.dominating.x > l.high.x {
                 break;
             }
@@ -117,8 +116,6 @@ pub fn check<S: Source>(s: &S) -> Result<(), CheckRefusal>
 }
 
 /// Check finds nothing wrong exactly where the rows are well formed and closed.
-pub fn check_accepts() -> u8
+pub fn check_accepts()
     ensures { Accepts }
-{
-    0
-}
+{}

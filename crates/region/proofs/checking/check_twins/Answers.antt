@@ -1,4 +1,4 @@
-use Rattle.std.proofs.Common.{◌≡◌, not, refl, sym, ap, ◌∙◌, rules, tests}
+use Rattle.std.proofs.Common.{not, refl, ap, ◌∙◌, rules, tests}
 use Rattle.std.specs.List.{between}
 use Rattle.std.proofs.lemmas.Iterator.Consumers.{YieldsList-from_first}
 use Rattle.std.proofs.lemmas.Iterator.Search.{position_from_yields_List}
@@ -13,7 +13,7 @@ returns g c =
     let rows = g.S.Source.rows c.args.s.now in
     refused_is c.position.result NoTwin c.map_or.result (search rules)
     ∙ ap (λ o. refused_at o NoTwin)
-        (position_from_yields_List (λ h. not (stands rows (twin h))) c.position.new.self _ _ c.position.ensures.ran
-            (YieldsList-from_first (λ x. x) (λ s. between s.places.start s.places.end (g.S.Source.rows s.source.now)) _ c.of.ensures.rows)
-            (λ x b q k. search (rules, tests))
-        ∙ position_is (λ h. not (stands rows (twin h))) rows no_row (twinless rows) (λ k l. refl))
+    (position_from_yields_List (λ h. not (stands rows (twin h))) c.position.new.self _ _ c.position.ensures.ran
+    (YieldsList-from_first (λ x. x) (λ s. between s.places.start s.places.end (g.S.Source.rows s.source.now)) _ c.of.ensures.rows)
+    (λ x b q k. search (rules, tests))
+    ∙ position_is (λ h. not (stands rows (twin h))) rows no_row (twinless rows) (λ k l. refl))

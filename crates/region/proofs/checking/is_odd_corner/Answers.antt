@@ -11,9 +11,9 @@ pub returns : goal.returns
 returns g c =
     let rows = g.S.Source.rows c.args.s.now in
     ap odd
-        (count_from_yields_List c.filter.result c.count.result c.count.ensures.ran
-            (YieldsList-from_filter _ (λ h. same_point h.dominating c.args.v)
-                (YieldsList-at c.filter.ensures.source (YieldsList-from_first (λ x. x) (λ s. between s.places.start s.places.end (g.S.Source.rows s.source.now)) rows c.of.ensures.rows))
-                c.filter.ensures.closure (λ x b q k. search (rules, tests)))
-        ∙ length-filter (λ h. same_point h.dominating c.args.v) rows
-        ∙ sym (times_is (λ h. same_point h.dominating c.args.v) rows))
+    (count_from_yields_List c.filter.result c.count.result c.count.ensures.ran
+    (YieldsList-from_filter _ (λ h. same_point h.dominating c.args.v)
+    (YieldsList-at c.filter.ensures.source (YieldsList-from_first (λ x. x) (λ s. between s.places.start s.places.end (g.S.Source.rows s.source.now)) rows c.of.ensures.rows))
+    c.filter.ensures.closure (λ x b q k. search (rules, tests)))
+    ∙ length-filter (λ h. same_point h.dominating c.args.v) rows
+    ∙ sym (times_is (λ h. same_point h.dominating c.args.v) rows))
