@@ -40,8 +40,8 @@ fn check_order<S: Source>(s: &S) -> Result<(), CheckRefusal>
     requires { Nowhere (length (S.rows s.now)) (Misfit (S.rows s.now)) }
     ensures { result ≡ order_answer (S.rows s.now) }
 {
-    Rows::of(s)
-        .zip(Rows::from_place(s, 1))
+    let mut neighbours = Rows::from_place(s, 0).zip(Rows::from_place(s, 1));
+    neighbours
         .position(|(g, h)| !g.comes_before(h))
         .map_or(Ok(()), |i| Err(CheckRefusal::Unsorted(i + 1)))
 }

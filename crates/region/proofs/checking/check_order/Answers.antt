@@ -13,7 +13,7 @@ returns g c =
     order_is rows c.requires (λ p. not (fit p.0 && (fit p.1 && comes_before p.0 p.1))) (λ p. refl) c.position.result c.map_or.result
     (position_from_yields_List (λ p. not (fit p.0 && (fit p.1 && comes_before p.0 p.1))) c.position.new.self _ _ c.position.ensures.ran
     (YieldsList-from_zip
-    (YieldsList-at c.zip.ensures.first (YieldsList-from_first (λ x. x) (λ s. between s.places.start s.places.end (g.S.Source.rows s.source.now)) rows c.of.ensures.rows))
-    (YieldsList-at c.zip.ensures.second (YieldsList-from_first (λ x. x) (λ s. between s.places.start s.places.end (g.S.Source.rows s.source.now)) (drop 1 rows) c.from_place.ensures.rows)))
+    (YieldsList-at c.zip-neighbours.ensures.first (YieldsList-from_first (λ x. x) (λ s. between s.places.start s.places.end (g.S.Source.rows s.source.now)) rows c.from_place.ensures.rows))
+    (YieldsList-at c.zip-neighbours.ensures.second (YieldsList-from_first (λ x. x) (λ s. between s.places.start s.places.end (g.S.Source.rows s.source.now)) (drop 1 rows) c.from_place-2.ensures.rows)))
     (λ x b q k. search (rules, tests)))
     (search rules)
