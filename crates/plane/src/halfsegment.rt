@@ -17,7 +17,7 @@ impl Halfsegment {
     pub fn is_left(self) -> bool
         ensures { result ≡ left self }
     {
-        self.dominating.precedes(self.far)
+        self.dominating < self.far
     }
 
     /// The same segment seen from its other end.
@@ -40,14 +40,14 @@ impl Halfsegment {
     pub fn coincides(self, other: Halfsegment) -> bool
         ensures { result ≡ same_row self other }
     {
-        self.dominating.coincides(other.dominating) && self.far.coincides(other.far)
+        self == other
     }
 
     /// Whether both ends are in range and differ.
     pub fn is_fit(self) -> bool
         ensures { result ≡ fit self }
     {
-        self.dominating.in_range() && self.far.in_range() && !self.dominating.coincides(self.far)
+        self.dominating.in_range() && self.far.in_range() && self.dominating != self.far
     }
 
     /// The square of the length.
@@ -97,16 +97,14 @@ impl Halfsegment {
         if !other.is_fit() {
             return false;
         }
-        if !self.dominating.coincides(other.dominating) {
-            return self.dominating.precedes(other.dominating);
+        if self.dominating != other.dominating {
+            return self.dominating < other.dominating;
         }
         self.is_earlier(other)
     }
 }
 
 /// The order of halfsegments is a strict total order.
-pub fn rows_are_ordered() -> u8
+pub fn rows_are_ordered()
     ensures { RowOrder }
-{
-    0
-}
+{}

@@ -34,13 +34,7 @@ fn is_inside(l: Segment, p: Point) -> bool
     requires { (drawable l ≡ true) × (in_range p ≡ true) }
     ensures { result ≡ inside l p }
 {
-    if !l.low.precedes(p) {
-        return false;
-    }
-    if !p.precedes(l.high) {
-        return false;
-    }
-    side(l, p) == 0
+    l.low < p && p < l.high && side(l, p) == 0
 }
 
 /// Whether an end of `m` lies on `l` and is not an end of it.
@@ -85,8 +79,6 @@ pub fn meet_improperly(l: Segment, m: Segment) -> bool
 }
 
 /// Signs of orientations tell whether two segments meet improperly.
-pub fn signs_tell_meetings() -> u8
+pub fn signs_tell_meetings()
     ensures { SignsTell }
-{
-    0
-}
+{}
