@@ -20,7 +20,7 @@ fn test_row(h: Halfsegment) -> Result<(), RowFault>
     if !h.far.in_range() {
         return Err(RowFault::OutOfRange);
     }
-    if h.dominating.coincides(h.far) {
+    if h.dominating == h.far {
         return Err(RowFault::NoLength);
     }
     Ok(())
@@ -42,7 +42,7 @@ fn check_order<S: Source>(s: &S) -> Result<(), CheckRefusal>
 {
     let mut neighbours = Rows::from_place(s, 0).zip(Rows::from_place(s, 1));
     neighbours
-        .position(|(g, h)| !g.comes_before(h))
+        .position(|(g, h)| !(g < h))
         .map_or(Ok(()), |i| Err(CheckRefusal::Unsorted(i + 1)))
 }
 
@@ -50,7 +50,7 @@ fn check_order<S: Source>(s: &S) -> Result<(), CheckRefusal>
 fn has_row<S: Source>(s: &S, h: Halfsegment) -> bool
     ensures { result ≡ stands (S.rows s.now) h }
 {
-    Rows::of(s).any(|g| g.coincides(h))
+    Rows::of(s).any(|g| g == h)
 }
 
 /// Whether each row's twin is there.
@@ -90,7 +90,7 @@ fn check_meetings<S: Source>(s: &S) -> Result<(), CheckRefusal>
 fn is_odd_corner<S: Source>(s: &S, v: Point) -> bool
     ensures { result ≡ odd (degree (S.rows s.now) v) }
 {
-    Rows::of(s).filter(|h| h.dominating.coincides(v)).count() % 2 == 1
+    Rows::of(s).filter(|h| h.dominating == v).count() % 2 == 1
 }
 
 /// Whether each corner has an even number of rows.

@@ -20,7 +20,7 @@ impl RowFault {
 }
 
 /// The first thing that is wrong with the rows of a plan: at a row's place, or at a corner.
-#[derive(Clone, Copy, PartialEq, Eq)]
+#[derive(Clone, Copy, Debug, PartialEq, Eq)]
 pub enum CheckRefusal {
     BadRow(usize, RowFault),
     Unsorted(usize),

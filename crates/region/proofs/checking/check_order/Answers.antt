@@ -4,6 +4,7 @@ use Rattle.std.proofs.lemmas.Iterator.{YieldsList-from_zip}
 use Rattle.std.proofs.lemmas.Iterator.Consumers.{YieldsList-from_first, YieldsList-at}
 use Rattle.std.proofs.lemmas.Iterator.Search.{position_from_yields_List}
 use Rattle.plane.specs.Rows.{comes_before, fit}
+use Rattle.plane.specs.RowLaws.{row_before}
 use Rattle.region.proofs.Passes.{order_is}
 use Rattle.region.proofs.checking.check_order.Goals as goal
 
@@ -15,5 +16,5 @@ returns g c =
     (YieldsList-from_zip
     (YieldsList-at c.zip-neighbours.ensures.first (YieldsList-from_first (λ x. x) (λ s. between s.places.start s.places.end (g.S.Source.rows s.source.now)) rows c.from_place.ensures.rows))
     (YieldsList-at c.zip-neighbours.ensures.second (YieldsList-from_first (λ x. x) (λ s. between s.places.start s.places.end (g.S.Source.rows s.source.now)) (drop 1 rows) c.from_place-2.ensures.rows)))
-    (λ x b q k. search (rules, tests)))
+    (λ x b q k. search (rules, tests, row_before)))
     (search rules)
