@@ -1,5 +1,4 @@
 pub mod RowLists
-pub mod Moves
 pub mod Entries
 pub mod RowBytes
 pub mod Shift
