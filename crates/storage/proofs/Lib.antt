@@ -3,4 +3,4 @@ pub mod RowBytes
 pub mod Blocks
 pub mod Placed
 pub mod Shift
-pub mod Fronts
+pub mod Comparing
