@@ -9,27 +9,19 @@ use plane::{Halfsegment, Point};
 /// How many bytes a row takes.
 pub const ROW_BYTES: usize = 16;
 
-/// The number in the four bytes at the place `at`, highest first.
-fn word_at(bytes: &[u8], at: usize) -> i32
-    requires { at + 4 ≤ length bytes.now }
-    ensures { result ≡ word_at bytes.now at }
+/// The row that sixteen bytes are.
+fn row_from(bytes: &[u8; ROW_BYTES]) -> Halfsegment
+    ensures { result ≡ row_at_byte bytes.now 0 }
 {
-    i32::from_be_bytes([bytes[at], bytes[at + 1], bytes[at + 2], bytes[at + 3]])
-}
-
-/// The row in the sixteen bytes at the place `at`.
-fn row_from(bytes: &[u8], at: usize) -> Halfsegment
-    requires { at + 16 ≤ length bytes.now }
-    ensures { result ≡ row_at_byte bytes.now at }
-{
+    let (words, _) = bytes.as_chunks();
     Halfsegment {
         dominating: Point {
-            x: word_at(bytes, at),
-            y: word_at(bytes, at + 4),
+            x: i32::from_be_bytes(words[0]),
+            y: i32::from_be_bytes(words[1]),
         },
         far: Point {
-            x: word_at(bytes, at + 8),
-            y: word_at(bytes, at + 12),
+            x: i32::from_be_bytes(words[2]),
+            y: i32::from_be_bytes(words[3]),
         },
     }
 }
@@ -38,10 +30,9 @@ fn row_from(bytes: &[u8], at: usize) -> Halfsegment
 pub fn row_at(bytes: &[u8], i: usize) -> Option<Halfsegment>
     ensures { result ≡ bytes_row bytes.now i }
 {
-    if i >= bytes.len() / ROW_BYTES {
-        return None;
-    }
-    Some(row_from(bytes, ROW_BYTES * i))
+    let (rows, _) = bytes.as_chunks();
+    let row = rows.get(i)?;
+    Some(row_from(row))
 }
 
 /// The sixteen bytes of a row.
@@ -63,7 +54,7 @@ impl Entry<ROW_BYTES> for u8 {
     ghost layout = { byte_layout };
 
     fn read(entries: &[u8]) -> Halfsegment {
-        row_from(entries, 0)
+        row_at(entries, 0).unwrap()
     }
 
     fn write(entries: &mut [u8], row: Halfsegment) {
