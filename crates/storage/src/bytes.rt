@@ -39,11 +39,12 @@ pub fn row_at(bytes: &[u8], i: usize) -> Option<Halfsegment>
 pub fn row_bytes(row: Halfsegment) -> [u8; ROW_BYTES]
     ensures { result ≡ row_bytes row }
 {
-    let [a, b, c, d] = row.dominating.x.to_be_bytes();
-    let [e, f, g, h] = row.dominating.y.to_be_bytes();
-    let [i, j, k, l] = row.far.x.to_be_bytes();
-    let [m, n, o, p] = row.far.y.to_be_bytes();
-    [a, b, c, d, e, f, g, h, i, j, k, l, m, n, o, p]
+    let mut bytes = [0; ROW_BYTES];
+    bytes[..4].copy_from_slice(&row.dominating.x.to_be_bytes());
+    bytes[4..8].copy_from_slice(&row.dominating.y.to_be_bytes());
+    bytes[8..12].copy_from_slice(&row.far.x.to_be_bytes());
+    bytes[12..].copy_from_slice(&row.far.y.to_be_bytes());
+    bytes
 }
 
 impl Entry<ROW_BYTES> for u8 {
