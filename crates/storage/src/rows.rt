@@ -32,7 +32,9 @@ impl<'a, S: Source> Iterator for Rows<'a, S> {
         if self.next >= self.source.count() {
             return None;
         }
-        let Ok(row) = self.source.row(self.next) else { return None };
+        let Ok(row) = self.source.row(self.next) else {
+            return None
+        };
         self.next += 1;
         Some(row)
     }

@@ -67,7 +67,7 @@ impl<'a, E: Entry<N>, const N: usize> Store for RowStore<'a, E, N> {
         ensures memory { KeepsMemory self.old.kept self.new.kept }
     {
         if i > self.kept.len() {
-            return Err(InsertRefusal::NoPlace(NoSuchPlace));
+            return Err(NoSuchPlace.into());
         }
         if self.kept.len() >= self.kept.limit() {
             return Err(InsertRefusal::NoRoom);
