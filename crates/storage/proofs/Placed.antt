@@ -27,11 +27,11 @@ module _ {X : Type 0} (n : ℕ) (rows_of : List X → List Halfsegment) (entries
   rows_split : i ≤ count → rows_of xs ≡ rows_of (take (n * i) xs) ++ rows_of (drop (n * i) xs)
   rows_split le = ap rows_of (sym (take-append-drop (n * i) xs)) ∙ laws.joins _ _ i (front le)
 
-  pub row_inserted : (row : Halfsegment) → Fits32 row → i ≤ count → rows_of (take (n * i) xs ++ (entries_of row ++ drop (n * i) xs)) ≡ insert (rows_of xs) i row
-  row_inserted row fits le =
+  pub row_inserted : (ys : List X) (row : Halfsegment) → Fits32 row → i ≤ count → ys ≡ take (n * i) xs ++ (entries_of row ++ drop (n * i) xs) → rows_of ys ≡ insert (rows_of xs) i row
+  row_inserted ys row fits le e =
       let one : length (entries_of row) ≡ n * 1 = laws.width row ∙ sym (mul-one n) in
       let seam = insert_between _ (rows_of (drop (n * i) xs)) row i (laws.count _ i (front le)) in
-      laws.joins _ _ i (front le) ∙ rw (laws.joins (entries_of row) (drop (n * i) xs) 1 one, laws.back row fits, rows_split le) seam
+      ap rows_of e ∙ laws.joins _ _ i (front le) ∙ rw (laws.joins (entries_of row) (drop (n * i) xs) 1 one, laws.back row fits, rows_split le) seam
 
   fits : i < count → n * i + n ≤ length xs
   fits lt =
@@ -52,9 +52,10 @@ module _ {X : Type 0} (n : ℕ) (rows_of : List X → List Halfsegment) (entries
   pub row_read : (r : Halfsegment) → i < count → rows_of (between (n * i) (n * i + n) xs) ≡ r ∷ [] → Ok r ≡ row_at (rows_of xs) i
   row_read r lt e = rw (rows_split (omega arith), rows_rest lt, e) (sym (row_between _ (rows_of (drop (n * i + n) xs)) r i (laws.count _ i (front (omega arith)))))
 
-  pub row_removed : i < count → rows_of (take (n * i) xs ++ drop (n * i + n) xs) ≡ remove (rows_of xs) i
-  row_removed lt =
+  pub row_removed : (ys : List X) → i < count → ys ≡ take (n * i) xs ++ drop (n * i + n) xs → rows_of ys ≡ remove (rows_of xs) i
+  row_removed ys lt e =
       let le : i ≤ count = omega arith in
+      ap rows_of e ∙
       laws.joins _ _ i (front le) ∙
       remove_between _ _ (rows_of (drop (n * i + n) xs)) i (laws.count _ i (front le)) (laws.count _ 1 (one_row lt)) ∙
       sym (ap (λ l. remove l i) (rows_split le ∙ ap (λ l. rows_of (take (n * i) xs) ++ l) (rows_rest lt)))

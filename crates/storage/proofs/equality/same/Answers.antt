@@ -1,4 +1,3 @@
-use Rattle.std.proofs.Common.{rules}
 use Rattle.storage.proofs.Comparing.{eq_decides, row_eq, row_means, row_itself}
 use Rattle.storage.proofs.equality.same.Goals as goal
 

@@ -1,4 +1,4 @@
-use Rattle.std.proofs.Common.{◌≡◌, refl}
+use Rattle.std.proofs.Common.{refl}
 use Rattle.storage.proofs.Blocks.{block_put}
 use Rattle.storage.proofs.kept.Kept.insert.Goals as goal
 

@@ -1,4 +1,4 @@
-use Rattle.std.proofs.Common.{◌≡◌, refl}
+use Rattle.std.proofs.Common.{refl}
 use Rattle.storage.proofs.Blocks.{block_taken}
 use Rattle.storage.proofs.kept.Kept.remove.Goals as goal
 

@@ -1,7 +1,6 @@
-use Rattle.std.proofs.Common.{ap, ◌∙◌, refl, rules}
-use Rattle.std.proofs.lemmas.List.{length-map}
+use Rattle.std.proofs.Common.{ap, ◌∙◌, rules}
 use Rattle.storage.specs.Layout.{Fits32}
-use Rattle.storage.specs.Shift.{moved, moved_back}
+use Rattle.storage.specs.Shift.{moved}
 use Rattle.storage.proofs.Shift.{insert_moved, there_and_back}
 use Rattle.storage.proofs.shifted.ShiftedStoreStore.insert.Goals as goal
 

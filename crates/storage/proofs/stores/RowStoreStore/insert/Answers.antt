@@ -1,4 +1,4 @@
-use Rattle.std.proofs.Common.{◌≡◌, length, ◌∙◌, ap, arith, rules}
+use Rattle.std.proofs.Common.{arith, rules}
 use Rattle.storage.specs.Entries.{entries}
 use Rattle.storage.specs.Layout.{Fits32}
 use Rattle.storage.proofs.RowLists.{insert_stands}
@@ -10,7 +10,7 @@ pub returns-clause-changed : goal.returns-clause-changed
 returns-clause-changed g c =
     let s = c.args.self.now.kept in
     let laws = g.met.E.Entry.layout in
-    let rows_of = g.E.Entry.rows_of in
-    let fits : Fits32 c.args.row = record { cx = search rules; cy = search rules; fx = search rules; fy = search rules } in
     let count = laws.count (entries s) s.count (length_entries s) in
-    insert_stands _ _ _ c.args.i c.args.row (omega arith) (omega arith) (ap rows_of c.insert.ensures.entries ∙ row_inserted g.row.N rows_of g.E.Entry.entries_of laws (entries s) s.count (length_entries s) c.args.i c.args.row fits (omega arith))
+    let fits : Fits32 c.args.row = record { cx = search rules; cy = search rules; fx = search rules; fy = search rules } in
+    let stands = row_inserted g.row.N g.E.Entry.rows_of g.E.Entry.entries_of laws (entries s) s.count (length_entries s) c.args.i (entries c.insert.new.self) c.args.row fits (omega arith) c.insert.ensures.entries in
+    insert_stands _ _ _ c.args.i c.args.row (omega arith) (omega arith) stands

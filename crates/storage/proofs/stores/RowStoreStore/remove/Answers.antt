@@ -1,4 +1,4 @@
-use Rattle.std.proofs.Common.{◌≡◌, length, ◌∙◌, ap, arith}
+use Rattle.std.proofs.Common.{arith}
 use Rattle.storage.specs.Entries.{entries}
 use Rattle.storage.proofs.RowLists.{remove_stands}
 use Rattle.storage.proofs.Blocks.{length_entries}
@@ -9,6 +9,6 @@ pub returns-clause-changed : goal.returns-clause-changed
 returns-clause-changed g c =
     let s = c.args.self.now.kept in
     let laws = g.met.E.Entry.layout in
-    let rows_of = g.E.Entry.rows_of in
     let count = laws.count (entries s) s.count (length_entries s) in
-    remove_stands _ _ c.args.i (omega arith) (ap rows_of c.remove.ensures.entries ∙ row_removed g.row.N rows_of g.E.Entry.entries_of laws (entries s) s.count (length_entries s) c.args.i (omega arith))
+    let stands = row_removed g.row.N g.E.Entry.rows_of g.E.Entry.entries_of laws (entries s) s.count (length_entries s) c.args.i (entries c.remove.new.self) (omega arith) c.remove.ensures.entries in
+    remove_stands _ _ c.args.i (omega arith) stands
