@@ -10,9 +10,9 @@ pub record Fits32 (r : Halfsegment) : Type 0 where
   pub fx : FitsSigned w32 r.far.x
   pub fy : FitsSigned w32 r.far.y
 
--- n entries hold a row, and rows lie one after the other
+-- n entries hold a row, and rows lie one after the other: what is written reads as the row, and the rows before and after stay
 pub record IsLayout {X : Type 0} (n : ℕ) (rows_of : List X → List Halfsegment) (entries_of : Halfsegment → List X) : Type 0 where
-  pub some : 0 < n
+  pub positive : 0 < n
   pub count : (xs : List X) (i : ℕ) → length xs ≡ n * i → length (rows_of xs) ≡ i
   pub joins : (xs ys : List X) (i : ℕ) → length xs ≡ n * i → rows_of (xs ++ ys) ≡ rows_of xs ++ rows_of ys
   pub width : (r : Halfsegment) → length (entries_of r) ≡ n

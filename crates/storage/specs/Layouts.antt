@@ -14,7 +14,7 @@ use Rattle.storage.specs.Layout.{Fits32, IsLayout}
 
 pub record_layout : IsLayout 1 (λ (xs : List Halfsegment). xs) (λ r. r ∷ [])
 record_layout = record {
-  some = omega arith;
+  positive = omega arith;
   count = λ xs i e. omega arith;
   joins = λ xs ys i e. refl;
   width = λ r. refl;
@@ -85,7 +85,7 @@ byte_joins xs ys i e =
 
 pub byte_layout : IsLayout 16 rows_of row_bytes
 byte_layout = record {
-  some = omega arith;
+  positive = omega arith;
   count = λ xs i e. omega (arith, length_rows_of xs);
   joins = byte_joins;
   width = λ r. refl;

@@ -5,10 +5,12 @@ ghost use Rattle.storage.specs.Layout.{IsLayout};
 
 use plane::Halfsegment;
 
-/// What lent memory is made of: `N` entries hold a row.
-pub trait Entry<const N: usize>: Copy {
+/// What lent memory is made of: `N` entries hold a row. Other crates cannot name it, so no call of theirs owes a length.
+pub(crate) trait Entry<const N: usize>: Copy {
+    // The rows that lie in entries, one after the other.
     ghost rows_of: { List Self → List Halfsegment };
 
+    // The entries that a row takes.
     ghost entries_of: { Halfsegment → List Self };
 
     /// The row that `N` entries hold.
@@ -21,5 +23,6 @@ pub trait Entry<const N: usize>: Copy {
         requires { length entries.old ≡ N }
         ensures { entries.new ≡ entries_of row };
 
+    // What is written reads as the row, and the rows before and after it stay.
     ghost layout: { IsLayout N rows_of entries_of };
 }

@@ -21,7 +21,6 @@ impl<'a, E: Entry<N>, const N: usize> Kept<'a, E, N> {
 
     /// An empty list in the slice.
     pub(crate) fn new(items: &'a mut [E], most: usize) -> Kept<'a, E, N>
-        requires { 0 < N }
         ensures limit { limit result ≡ min most (length items.old / N) }
         ensures empty { size result ≡ 0 }
         ensures same { whole result ≡ items.old }

@@ -13,9 +13,8 @@ mod shifted;
 mod stores;
 
 pub use bytes::{ROW_BYTES, row_at, row_bytes};
-pub use entry::Entry;
 pub use equality::same;
 pub use interface::{InsertRefusal, NoSuchPlace, Source, Store};
 pub use rows::Rows;
 pub use shifted::ShiftedStore;
-pub use stores::{ByteStore, MOST_ROWS, RecordStore, RowStore};
+pub use stores::{ByteStore, MOST_ROWS, RecordStore};
