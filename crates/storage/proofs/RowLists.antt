@@ -1,11 +1,12 @@
 -- For implementers of the interfaces: the clauses, from facts about the list. For callers: what an answer says of it.
-use Rattle.std.proofs.Common.{◌≡◌, ℕ, zero, suc, ◌+◌, ◌-◌, ◌<◌, ◌≤◌, List, [], ◌∷◌, ◌++◌, length, get_or, take, drop, Ok, Err, refl, add-one, arith, w32, SFits}
+use Rattle.std.proofs.Common.{◌≡◌, ℕ, zero, suc, ◌+◌, ◌-◌, ◌<◌, ◌≤◌, List, [], ◌∷◌, ◌++◌, length, get_or, take, drop, Ok, Err, refl, add-one, arith}
 use Rattle.std.specs.List.{insert, remove, between}
 use Rattle.std.proofs.Math.ListN.{drop_of_length-le}
 use Rattle.std.proofs.lemmas.Bool.{lt-ltb, le-ltb}
 use Rattle.plane.specs.declared.halfsegment.Halfsegment.{Halfsegment}
 use Rattle.storage.specs.declared.interface.NoSuchPlace.{NoSuchPlace}
 use Rattle.storage.specs.declared.interface.InsertRefusal.TheVariants.{NoPlace, NoRoom}
+pub use Rattle.storage.specs.Layout.{Fits32}
 use Rattle.storage.specs.Rows.{no_such_place, row_at, Inserted, Removed}
 
 pub row_at_in : (xs : List Halfsegment) (i : ℕ) (d : Halfsegment) → i < length xs → row_at xs i ≡ Ok (get_or xs i d)
@@ -33,13 +34,6 @@ remove_stands xs ys i within e = record {
 -- the `i + 1` of code is the `suc i` of a list
 pub removed_is : {X : Type 0} (xs ys : List X) (i : ℕ) → ys ≡ take i xs ++ drop (i + 1) xs → ys ≡ remove xs i
 removed_is xs ys i e = rw (add-one i) at e
-
--- the coordinates of a row are numbers of 32 bits
-pub record Fits32 (r : Halfsegment) : Type 0 where
-  pub cx : SFits w32 r.dominating.x
-  pub cy : SFits w32 r.dominating.y
-  pub fx : SFits w32 r.far.x
-  pub fy : SFits w32 r.far.y
 
 pub insert_no_place : (xs : List Halfsegment) (room i : ℕ) (row : Halfsegment) → length xs < i → Inserted xs room i row (Err (NoPlace no_such_place)) xs
 insert_no_place xs room i row past = record { answer = rw (lt-ltb (length xs) i past); stands = refl }

@@ -44,7 +44,9 @@ impl<'a, S: Source> Iterator for Rows<'a, S> {
 
     fn next(&mut self) -> Option<Halfsegment> {
         let place = self.places.next()?;
-        let Ok(row) = self.source.row(place) else { return None };
+        let Ok(row) = self.source.row(place) else {
+            return None
+        };
         Some(row)
     }
 }
