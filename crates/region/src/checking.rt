@@ -20,7 +20,7 @@ fn test_row(h: Halfsegment) -> Result<(), RowFault>
     if !h.far.in_range() {
         return Err(RowFault::OutOfRange);
     }
-    if h.dominating.coincides(h.far) {
+    if h.dominating == h.far {
         return Err(RowFault::NoLength);
     }
     Ok(())
@@ -54,7 +54,7 @@ fn check_order<S: Source>(s: &S) -> Result<(), CheckRefusal>
     for i in 1..s.count() {
         let Ok(g) = s.row(i - 1) else { return Ok(()) };
         let Ok(h) = s.row(i) else { return Ok(()) };
-        if !g.comes_before(h) {
+        if !(g < h) {
             return Err(CheckRefusal::Unsorted(i));
         }
     }
@@ -67,7 +67,7 @@ fn has_row<S: Source>(s: &S, h: Halfsegment) -> bool
 {
     for i in 0..s.count() {
         let Ok(g) = s.row(i) else { return false };
-        if g.coincides(h) {
+        if g == h {
             return true;
         }
     }
@@ -119,7 +119,7 @@ fn is_odd_corner<S: Source>(s: &S, v: Point) -> bool
     let mut is_odd = false;
     for i in 0..s.count() {
         let Ok(h) = s.row(i) else { return is_odd };
-        if h.dominating.coincides(v) {
+        if h.dominating == v {
             is_odd = !is_odd;
         }
     }
