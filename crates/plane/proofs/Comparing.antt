@@ -1,5 +1,5 @@
 -- Two fit halfsegments, compared step by step: the first step that decides gives what `compared` says (`steps_compare`).
-use Rattle.std.proofs.Common.{◌≡◌, Bool, true, false, cond, ◌&&◌, ◌||◌, ℤ, pos, Some, None, sym, refl, ap, ◌∙◌, arith}
+use Rattle.std.proofs.Common.{◌≡◌, Bool, true, false, ◌&&◌, ◌||◌, ◌⊎◌, ℤ, pos, Some, None, sym, refl, ap, ◌∙◌, inl, inr, arith}
 use Rattle.std.specs.Cmp.{tied_itself, int_cmp_total}
 use Rattle.std.specs.Ordering.{is_lt, is_eq, int_cmp, bool_cmp, ordering_then}
 use Rattle.std.specs.declared.cmp.Ordering.{Ordering}
@@ -12,9 +12,10 @@ use Rattle.plane.specs.declared.point.Point.{Point}
 use Rattle.plane.specs.declared.halfsegment.Halfsegment.{Halfsegment}
 use Rattle.plane.specs.contracts.point.PointOrd.TheImpl as point_order
 use Rattle.plane.specs.Points.{eq_int, same_point, precedes, orientation}
-use Rattle.plane.specs.Rows.{same_row, fit, left, reach, swept_first, comes_before, compared}
+use Rattle.plane.specs.Rows.{same_row, fit, left, reach, swept_first, by_side, comes_before, compared}
 use Rattle.plane.specs.PointLaws.{same_point_is, eq_int_is}
-use Rattle.plane.specs.RowOrder.{no_turn, one_row}
+use Rattle.plane.specs.RowChains.{no_turn}
+use Rattle.plane.proofs.RowOrder.{one_row, row_order}
 use Rattle.plane.specs.RowLaws.{same_row_is, same_row_holds, long, by_tests}
 
 -- by point, by side, by turn, by length
@@ -24,7 +25,7 @@ steps p s t r = ordering_then (ordering_then (ordering_then p s) t) r
 abbrev sweep : Ordering → Ordering → Bool
 sweep t r = is_lt t || (is_eq t && is_lt r)
 
-first_step : (p : Ordering) (l k : Bool) (t r : Ordering) → is_lt (steps p (bool_cmp l k) t r) ≡ (is_lt p || (is_eq p && cond l (k && sweep t r) (k || sweep t r)))
+first_step : (p : Ordering) (l k : Bool) (t r : Ordering) → is_lt (steps p (bool_cmp l k) t r) ≡ (is_lt p || (is_eq p && by_side l k (sweep t r)))
 first_step Less l k t r = refl
 first_step Greater l k t r = refl
 first_step Equal true false t r = refl
@@ -70,7 +71,7 @@ answer g h = steps (point_order.ghosts.cmp g.dominating h.dominating) (bool_cmp 
 before : (g h : Halfsegment) → is_lt (answer g h) ≡ comes_before g h
 before g h =
     first_step (point_order.ghosts.cmp g.dominating h.dominating) (left g) (left h) (int_cmp (pos 0) (orientation g.far h.far g.dominating)) (int_cmp (reach g) (reach h))
-    ∙ (λ i. point_first g.dominating h.dominating i || (point_same g.dominating h.dominating i && cond (left g) (left h && swept i) (left h || swept i)))
+    ∙ (λ i. point_first g.dominating h.dominating i || (point_same g.dominating h.dominating i && by_side (left g) (left h) (swept i)))
   where
     swept : sweep (int_cmp (pos 0) (orientation g.far h.far g.dominating)) (int_cmp (reach g) (reach h)) ≡ swept_first g h
     swept i = less_is (pos 0) (orientation g.far h.far g.dominating) i || (zero_is (orientation g.far h.far g.dominating) i && less_is (reach g) (reach h) i)
@@ -94,23 +95,25 @@ level_self g = λ i. steps (ordering_then (tied_itself int_cmp_total g.dominatin
     tied_turn : int_cmp (pos 0) (orientation g.far g.far g.dominating) ≡ Equal
     tied_turn = ap (int_cmp (pos 0)) (no_turn g)
 
-decided : (o : Ordering) → (o ≡ Equal → ⊥) → o ≡ cond (is_lt o) Less Greater
-decided Less n = refl
-decided Equal n = absurd (n refl)
-decided Greater n = refl
+-- of two that differ, the first comes before, or the second
+decided : (o : Ordering) (c d : Bool) → (o ≡ Equal → ⊥) → is_lt o ≡ c → (c ≡ true) ⊎ (d ≡ true) → Some o ≡ by_tests false true c d
+decided Less c d n e h = λ i. by_tests false true (e i) d
+decided Equal c d n e h = absurd (n refl)
+decided Greater c d n e (inl h) = absurd (apart h (sym e))
+decided Greater c d n e (inr h) = λ i. by_tests false true (e i) (sym h i)
 
 pub alike : (g h : Halfsegment) → same_row g h ≡ true → Some Equal ≡ compared g h
-alike g h e i = by_tests (sym e i) (fit g && fit h) (comes_before g h)
+alike g h e i = by_tests (sym e i) (fit g && fit h) (comes_before g h) (comes_before h g)
+
+pub unfit : (g h : Halfsegment) → same_row g h ≡ false → (fit g && fit h) ≡ false → None ≡ compared g h
+unfit g h n f i = by_tests (sym n i) (sym f i) (comes_before g h) (comes_before h g)
 
 pub steps_compare : (g h : Halfsegment) → fit g ≡ true → fit h ≡ true → Some (answer g h) ≡ compared g h
 steps_compare g h fg fh = go (case (same_row g h))
   where
-    apart_ones : same_row g h ≡ false → answer g h ≡ cond (comes_before g h) Less Greater
-    apart_ones n = decided (answer g h) (λ e. apart (same_row_holds g h (level g h fg fh e)) n) ∙ (λ i. cond (before g h i) Less Greater)
-
     go : Case (same_row g h) → Some (answer g h) ≡ compared g h
     go (holds e) = ap (λ r. Some (answer g r)) (sym (same_row_is g h e)) ∙ ap Some (level_self g) ∙ alike g h e
-    go (fails n) = ap Some (apart_ones n) ∙ (λ i. by_tests (sym n i) (sym (and_from (fit g) (fit h) fg fh) i) (comes_before g h))
-
-pub unfit : (g h : Halfsegment) → same_row g h ≡ false → (fit g && fit h) ≡ false → None ≡ compared g h
-unfit g h n f i = by_tests (sym n i) (sym f i) (comes_before g h)
+    go (fails n) =
+        decided (answer g h) (comes_before g h) (comes_before h g) (λ e. apart (same_row_holds g h (level g h fg fh e)) n) (before g h)
+        (row_order.comparable g h (long g fg) (long h fh) (λ e. apart (same_row_holds g h e) n))
+        ∙ (λ i. by_tests (sym n i) (sym (and_from (fit g) (fit h) fg fh) i) (comes_before g h) (comes_before h g))

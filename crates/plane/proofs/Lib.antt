@@ -6,6 +6,7 @@ pub mod Crossed
 pub mod Cuts
 pub mod Meetings
 pub mod Pairs
+pub mod RowOrder
 pub mod Segments
 pub mod Sharing
 pub mod Standing

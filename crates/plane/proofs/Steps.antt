@@ -1,7 +1,8 @@
 -- Steps of the tests in the code: numbers that went to bits and back, and tests that failed or held so far.
-use Rattle.std.proofs.Common.{◌≡◌, Bool, true, false, ◌&&◌, ◌||◌, eqb, ℤ, pos, sym, refl, ap, ◌∙◌, arith, w64, SFits, to_z, of_z}
+use Rattle.std.proofs.Common.{◌≡◌, Bool, true, false, ◌&&◌, ◌||◌, eqb, ℤ, pos, sym, ap, ◌∙◌, arith, w64, SFits, to_z, of_z}
 use Rattle.std.specs.Ordering.{partial_lt}
 use Rattle.std.proofs.lemmas.Int.{ints, to_z-of_z}
+use Rattle.std.proofs.Math.Bool.{or_assoc}
 use Rattle.std.proofs.lemmas.Bool.{and_parts}
 use Rattle.plane.specs.declared.point.Point.{Point}
 use Rattle.plane.specs.declared.segment.Segment.{Segment}
@@ -44,11 +45,5 @@ or_then b p e = e ∙ ap (λ t. t || b) (sym e ∙ p)
 pub or_else : {x y a b : Bool} → x ≡ a → y ≡ b → x ≡ false → y ≡ (a || b)
 or_else {b = b} p q e = q ∙ ap (λ t. t || b) (sym e ∙ p)
 
-pub and_regrouped : (a b c : Bool) → ((a && b) && c) ≡ (a && (b && c))
-and_regrouped true b c = refl
-and_regrouped false b c = refl
-
 pub or_regrouped : (a b c d : Bool) → ((a || (b || c)) || d) ≡ (a || (b || (c || d)))
-or_regrouped true b c d = refl
-or_regrouped false true c d = refl
-or_regrouped false false c d = refl
+or_regrouped a b c d = or_assoc a (b || c) d ∙ ap (λ t. a || t) (or_assoc b c d)

@@ -3,5 +3,5 @@ pub mod Spots
 pub mod Rows
 pub mod Meeting
 pub mod PointLaws
-pub mod RowOrder
+pub mod RowChains
 pub mod RowLaws

@@ -41,17 +41,22 @@ abbrev pub swept_first : Halfsegment → Halfsegment → Bool
 swept_first g h =
     int_lt (pos 0) (orientation g.far h.far g.dominating) || (eq_int (orientation g.far h.far g.dominating) (pos 0) && int_lt (reach g) (reach h))
 
+-- right ones before left ones, and two alike as they are swept: g and h tell whether each is left, s whether the first is swept first
+abbrev pub by_side : Bool → Bool → Bool → Bool
+by_side g h s = cond g (h && s) (h || s)
+
 -- at one dominating point right halfsegments come before left ones
 abbrev pub earlier : Halfsegment → Halfsegment → Bool
-earlier g h = cond (left g) (left h && swept_first g h) (left h || swept_first g h)
+earlier g h = by_side (left g) (left h) (swept_first g h)
 
 -- the order of halfsegments: by dominating point, then as above
 abbrev pub comes_before : Halfsegment → Halfsegment → Bool
 comes_before g h = precedes g.dominating h.dominating || (same_point g.dominating h.dominating && earlier g h)
 
--- what a comparison answers: of two different halfsegments, which comes first if both are fit, and else nothing
+-- what a comparison answers: of two different halfsegments, if both are fit, the one that comes before the other is the less
 abbrev pub compared : Halfsegment → Halfsegment → Option Ordering
-compared g h = cond (same_row g h) (Some Equal) (cond (fit g && fit h) (Some (cond (comes_before g h) Less Greater)) None)
+compared g h =
+    cond (same_row g h) (Some Equal) (cond (fit g && fit h) (cond (comes_before g h) (Some Less) (cond (comes_before h g) (Some Greater) None)) None)
 
 -- with a length, or not
 abbrev pub Long : Halfsegment → Type 0

@@ -13,7 +13,7 @@ use Rattle.plane.specs.Spots.{MeetImproperly}
 use Rattle.plane.specs.Meeting.{improper}
 use Rattle.plane.specs.PointLaws.{same_point_is, precedes_self, precedes_back}
 use Rattle.plane.proofs.Segments.{same_row_is, same_row_holds, fit_long, segment_ordered}
-use Rattle.plane.specs.RowOrder.{row_order}
+use Rattle.plane.proofs.RowOrder.{row_order}
 use Rattle.plane.proofs.Meetings.{signs_tell}
 use Rattle.region.specs.declared.refusals.RowFault.{RowFault}
 use Rattle.region.specs.declared.refusals.RowFault.TheVariants.{OutOfRange, NoLength}

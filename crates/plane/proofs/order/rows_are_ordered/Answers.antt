@@ -1,4 +1,4 @@
-use Rattle.plane.specs.RowOrder.{row_order}
+use Rattle.plane.proofs.RowOrder.{row_order}
 use Rattle.plane.specs.RowLaws.{equal_rows, row_before}
 use Rattle.plane.proofs.order.rows_are_ordered.Goals as goal
 

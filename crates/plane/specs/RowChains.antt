@@ -1,34 +1,34 @@
--- The order of halfsegments that have a length is strict and total: `row_order`.
-use Rattle.std.proofs.Common.{◌≡◌, Bool, true, false, cond, ◌&&◌, ◌||◌, ◌⊎◌, [], ◌∷◌, ℤ, pos, negsuc, ◌+ℤ◌, ◌-ℤ◌, ◌*ℤ◌, neg_ℤ, nat_abs, ◌<ℤ◌, sym, refl, ap, ◌∙◌, subst, inl, inr, arith}
+-- The order of halfsegments that have a length is strict: `comes_before_self`, `comes_before_transitive`.
+use Rattle.std.proofs.Common.{◌≡◌, Bool, true, false, ◌&&◌, ◌||◌, ◌⊎◌, [], ◌∷◌, ℤ, pos, negsuc, ◌+ℤ◌, ◌-ℤ◌, ◌*ℤ◌, neg_ℤ, nat_abs, ◌<ℤ◌, sym, refl, ap, ◌∙◌, subst, inl, inr, arith}
 use borrow.Author.Differences.{ints}
 use lib.Signed.{lt_z}
 use Rattle.std.proofs.lemmas.Bool.{and_parts, or_cases}
-use Rattle.algebra.specs.Polynomial.{Ex, con, var, neg, ◌⊕◌, ◌⊖◌, ◌⊗◌, by, unit, nought, minus_unit}
-use Rattle.algebra.proofs.Ring.{ring, ring_from, mul_assoc, mul_one, mul_zero}
-use Rattle.algebra.proofs.Signs.{lin, order, Tri, below, zeroed, above, tri, mul_pos, neg_mul_neg, mul_le, cancel_pos, cancel_zero, square}
+use Rattle.algebra.specs.Polynomial.{Ex, var, neg, ◌⊕◌, ◌⊖◌, ◌⊗◌, unit, nought, minus_unit}
+use Rattle.algebra.proofs.Ring.{ring, mul_assoc, mul_one, mul_zero}
+use Rattle.algebra.proofs.Signs.{lin, Tri, below, zeroed, above, tri, mul_pos, mul_le, cancel_pos, cancel_zero}
 use Rattle.algebra.proofs.Members.{Case, case, holds, fails, apart}
 use Rattle.plane.specs.declared.halfsegment.Halfsegment.{Halfsegment}
 use Rattle.plane.specs.Points.{eq_int, same_point, precedes, orientation}
-use Rattle.plane.specs.Rows.{left, reach, swept_first, earlier, comes_before, Long, RowOrder}
-use Rattle.plane.specs.PointLaws.{Before, Lex, first, last, one, lex, points_equal, same_point_is, same_point_holds, before_of, of_before, precedes_self, precedes_transitive}
+use Rattle.plane.specs.Rows.{left, reach, swept_first, by_side, earlier, comes_before, Long}
+use Rattle.plane.specs.PointLaws.{Before, Lex, first, last, one, lex, same_point_is, same_point_holds, before_of, of_before, precedes_self, precedes_transitive}
 
 -- vectors (x, y): the cross product, the square of the length, and a linear function; each as an expression too
-abbrev cross : ℤ → ℤ → ℤ → ℤ → ℤ
+abbrev pub cross : ℤ → ℤ → ℤ → ℤ → ℤ
 cross px py qx qy = px *ℤ qy -ℤ qx *ℤ py
 
-abbrev cross_e : Ex → Ex → Ex → Ex → Ex
+abbrev pub cross_e : Ex → Ex → Ex → Ex → Ex
 cross_e px py qx qy = px ⊗ qy ⊖ qx ⊗ py
 
-abbrev size : ℤ → ℤ → ℤ
+abbrev pub size : ℤ → ℤ → ℤ
 size x y = x *ℤ x +ℤ y *ℤ y
 
-abbrev size_e : Ex → Ex → Ex
+abbrev pub size_e : Ex → Ex → Ex
 size_e x y = x ⊗ x ⊕ y ⊗ y
 
-abbrev along : ℤ → ℤ → ℤ → ℤ → ℤ
+abbrev pub along : ℤ → ℤ → ℤ → ℤ → ℤ
 along m k x y = m *ℤ x +ℤ k *ℤ y
 
-abbrev along_e : Ex → Ex → Ex → Ex → Ex
+abbrev pub along_e : Ex → Ex → Ex → Ex → Ex
 along_e m k x y = m ⊗ x ⊕ k ⊗ y
 
 -- a vector is ahead if it leads to a later point; then N x + y is positive for N greater than −y
@@ -40,12 +40,12 @@ ahead_pos N x y n h (inl p) = omega (arith, lin, mul_le N (pos 1) x (omega (arit
 ahead_pos N x y n h (inr (e, p)) = omega (arith, lin, ap (λ z. N *ℤ z) e ∙ mul_zero N)
 
 -- three vectors on one side of a line through the origin: m x + k y is positive at each
-record OneSide (px py qx qy rx ry : ℤ) : Type 0 where
-  m : ℤ
-  k : ℤ
-  at_p : pos 0 <ℤ along m k px py
-  at_q : pos 0 <ℤ along m k qx qy
-  at_r : pos 0 <ℤ along m k rx ry
+pub record OneSide (px py qx qy rx ry : ℤ) : Type 0 where
+  pub m : ℤ
+  pub k : ℤ
+  pub at_p : pos 0 <ℤ along m k px py
+  pub at_q : pos 0 <ℤ along m k qx qy
+  pub at_r : pos 0 <ℤ along m k rx ry
 
 -- greater than each without its sign
 abbrev bound : ℤ → ℤ → ℤ → ℤ
@@ -68,7 +68,7 @@ one_side s px py qx qy rx ry p q r = record { m = N *ℤ s; k = s; at_p = at px 
     at x y h a = omega (arith, lin, ahead_pos N (s *ℤ x) (s *ℤ y) low.0 h a, mul_assoc N s x)
 
 -- the first of two vectors is swept first: its cross product c with the other is positive, or 0 and it is the shorter
-abbrev Swept : ℤ → ℤ → ℤ → Type 0
+abbrev pub Swept : ℤ → ℤ → ℤ → Type 0
 Swept c a b = (pos 0 <ℤ c) ⊎ ((c ≡ pos 0) × (a <ℤ b))
 
 swept_is : (c a b : ℤ) → (lt_z (pos 0) c || (eq_int c (pos 0) && lt_z a b)) ≡ true → Swept c a b
@@ -106,59 +106,11 @@ swept_transitive px py qx qy rx ry o =
     (ring (px ∷ py ∷ qx ∷ qy ∷ rx ∷ ry ∷ o.m ∷ o.k ∷ []) (along_e (var 6) (var 7) (var 2) (var 3) ⊗ cross_e (var 0) (var 1) (var 4) (var 5))
     (along_e (var 6) (var 7) (var 4) (var 5) ⊗ cross_e (var 0) (var 1) (var 2) (var 3) ⊕ along_e (var 6) (var 7) (var 0) (var 1) ⊗ cross_e (var 2) (var 3) (var 4) (var 5)) refl)
 
--- only the vector 0 has the size 0
-size_zero : (x y : ℤ) → size x y ≡ pos 0 → (x ≡ pos 0) × (y ≡ pos 0)
-size_zero x y e = (part x y (tri x) e, part y x (tri y) (omega (arith, lin)))
-  where
-    part : (u v : ℤ) → Tri u → size u v ≡ pos 0 → u ≡ pos 0
-    part u v (below h) e = absurd (omega (arith, lin, neg_mul_neg u u h h, square v))
-    part u v (zeroed h) e = h
-    part u v (above h) e = absurd (omega (arith, lin, mul_pos u u h h, square v))
-
--- two of one direction and one size are one: the sizes of p + q and of p − q have the product 0, and p + q is not 0
-one_vector : (px py qx qy : ℤ) → OneSide px py qx qy qx qy → cross px py qx qy ≡ pos 0 → size px py ≡ size qx qy → (px ≡ qx) × (py ≡ qy)
-one_vector px py qx qy o c e = (omega (arith, lin, gone.0), omega (arith, lin, gone.1))
-  where
-    sum : ℤ
-    sum = size (px +ℤ qx) (py +ℤ qy)
-
-    opposed : (px +ℤ qx ≡ pos 0) × (py +ℤ qy ≡ pos 0) → along o.m o.k px py +ℤ along o.m o.k qx qy ≡ pos 0
-    opposed z =
-        ring_from (px ∷ py ∷ qx ∷ qy ∷ o.m ∷ o.k ∷ []) (by (var 4) (var 0 ⊕ var 2) nought ∷ by (var 5) (var 1 ⊕ var 3) nought ∷ []) (z.0, (z.1, tt))
-        (along_e (var 4) (var 5) (var 0) (var 1) ⊕ along_e (var 4) (var 5) (var 2) (var 3)) nought refl
-
-    some : Tri sum → pos 0 <ℤ sum
-    some (below h) = absurd (omega (arith, lin, square (px +ℤ qx), square (py +ℤ qy)))
-    some (zeroed h) = absurd (omega (arith, lin, o.at_p, o.at_q, opposed (size_zero (px +ℤ qx) (py +ℤ qy) h)))
-    some (above h) = h
-
-    product : sum *ℤ size (px -ℤ qx) (py -ℤ qy) ≡ pos 0
-    product =
-        ring_from (px ∷ py ∷ qx ∷ qy ∷ [])
-        (by (con (pos 4) ⊗ cross_e (var 0) (var 1) (var 2) (var 3)) (cross_e (var 0) (var 1) (var 2) (var 3)) nought ∷ by (size_e (var 0) (var 1) ⊖ size_e (var 2) (var 3)) (size_e (var 0) (var 1)) (size_e (var 2) (var 3)) ∷ []) (c, (e, tt))
-        (size_e (var 0 ⊕ var 2) (var 1 ⊕ var 3) ⊗ size_e (var 0 ⊖ var 2) (var 1 ⊖ var 3)) nought refl
-
-    gone : (px -ℤ qx ≡ pos 0) × (py -ℤ qy ≡ pos 0)
-    gone = size_zero (px -ℤ qx) (py -ℤ qy) (cancel_zero sum (size (px -ℤ qx) (py -ℤ qy)) (some (tri sum)) product)
-
-swept_comparable : (px py qx qy : ℤ) → OneSide px py qx qy qx qy → ((px ≡ qx) × (py ≡ qy)) ⊎ (Swept (cross px py qx qy) (size px py) (size qx qy) ⊎ Swept (cross qx qy px py) (size qx qy) (size px py))
-swept_comparable px py qx qy o = go (tri (cross px py qx qy)) (order (size px py) (size qx qy))
-  where
-    back : cross qx qy px py ≡ neg_ℤ (cross px py qx qy)
-    back = ring (px ∷ py ∷ qx ∷ qy ∷ []) (cross_e (var 2) (var 3) (var 0) (var 1)) (neg (cross_e (var 0) (var 1) (var 2) (var 3))) refl
-
-    go : Tri (cross px py qx qy) → (size px py <ℤ size qx qy) ⊎ ((size px py ≡ size qx qy) ⊎ (size qx qy <ℤ size px py)) → ((px ≡ qx) × (py ≡ qy)) ⊎ (Swept (cross px py qx qy) (size px py) (size qx qy) ⊎ Swept (cross qx qy px py) (size qx qy) (size px py))
-    go (below h) s = inr (inr (inl (omega (arith, lin, back))))
-    go (above h) s = inr (inl (inl h))
-    go (zeroed h) (inl s) = inr (inl (inr (h, s)))
-    go (zeroed h) (inr (inl s)) = inl (one_vector px py qx qy o h s)
-    go (zeroed h) (inr (inr s)) = inr (inr (inr (omega (arith, lin, back), s)))
-
 -- the vector of a halfsegment, from its dominating point to its far one
-abbrev across : Halfsegment → ℤ
+abbrev pub across : Halfsegment → ℤ
 across h = h.far.x -ℤ h.dominating.x
 
-abbrev rise : Halfsegment → ℤ
+abbrev pub rise : Halfsegment → ℤ
 rise h = h.far.y -ℤ h.dominating.y
 
 abbrev way : Bool → ℤ
@@ -193,64 +145,38 @@ aimed h n = go (case (left h)) (lex h.dominating h.far)
     go (fails e) (last p) = subst (λ t. Aimed t h) (sym e) (off p)
 
 -- all left or all right: on one side
-alike : (g h k : Halfsegment) → Long g → Long h → Long k → left g ≡ left h → left h ≡ left k → OneSide (across g) (rise g) (across h) (rise h) (across k) (rise k)
+pub alike : (g h k : Halfsegment) → Long g → Long h → Long k → left g ≡ left h → left h ≡ left k → OneSide (across g) (rise g) (across h) (rise h) (across k) (rise k)
 alike g h k lg lh lk e f =
     one_side (way (left g)) (across g) (rise g) (across h) (rise h) (across k) (rise k)
     (aimed g lg) (subst (λ t. Aimed t h) (sym e) (aimed h lh)) (subst (λ t. Aimed t k) (sym (e ∙ f)) (aimed k lk))
 
 -- `swept_first` by the vectors
-abbrev Sweeps : Halfsegment → Halfsegment → Type 0
+abbrev pub Sweeps : Halfsegment → Halfsegment → Type 0
 Sweeps g h = Swept (cross (across g) (rise g) (across h) (rise h)) (reach g) (reach h)
 
-orientation_is : (g h : Halfsegment) → g.dominating ≡ h.dominating → orientation g.far h.far g.dominating ≡ cross (across g) (rise g) (across h) (rise h)
+pub orientation_is : (g h : Halfsegment) → g.dominating ≡ h.dominating → orientation g.far h.far g.dominating ≡ cross (across g) (rise g) (across h) (rise h)
 orientation_is g h e = ap (λ v. across g *ℤ (h.far.y -ℤ v.y) -ℤ (h.far.x -ℤ v.x) *ℤ rise g) e
 
 sweeps : (g h : Halfsegment) → g.dominating ≡ h.dominating → swept_first g h ≡ true → Sweeps g h
 sweeps g h e s = subst (λ c. Swept c (reach g) (reach h)) (orientation_is g h e) (swept_is (orientation g.far h.far g.dominating) (reach g) (reach h) s)
 
-sweeps_back : (g h : Halfsegment) → g.dominating ≡ h.dominating → Sweeps g h → swept_first g h ≡ true
+pub sweeps_back : (g h : Halfsegment) → g.dominating ≡ h.dominating → Sweeps g h → swept_first g h ≡ true
 sweeps_back g h e s = swept_holds (orientation g.far h.far g.dominating) (reach g) (reach h) (subst (λ c. Swept c (reach g) (reach h)) (sym (orientation_is g h e)) s)
 
 -- at one dominating point: right before left, and alike ones as they are swept
-earlier_chain : (g h k gh hk gk : Bool) → (g ≡ h → h ≡ k → gh ≡ true → hk ≡ true → gk ≡ true) → cond g (h && gh) (h || gh) ≡ true → cond h (k && hk) (k || hk) ≡ true → cond g (k && gk) (k || gk) ≡ true
+earlier_chain : (g h k gh hk gk : Bool) → (g ≡ h → h ≡ k → gh ≡ true → hk ≡ true → gk ≡ true) → by_side g h gh ≡ true → by_side h k hk ≡ true → by_side g k gk ≡ true
 earlier_chain true true true gh hk gk f p q = f refl refl p q
-earlier_chain true true false gh hk gk f p q = q
+earlier_chain true true false gh hk gk f p q = absurd (apart q refl)
 earlier_chain true false k gh hk gk f p q = absurd (apart p refl)
-earlier_chain false true true gh hk gk f p q = refl
+earlier_chain false true true gh hk gk f p q = p
 earlier_chain false true false gh hk gk f p q = absurd (apart q refl)
-earlier_chain false false true gh hk gk f p q = refl
+earlier_chain false false true gh hk gk f p q = q
 earlier_chain false false false gh hk gk f p q = f refl refl p q
 
 earlier_transitive : (g h k : Halfsegment) → Long g → Long h → Long k → g.dominating ≡ h.dominating → h.dominating ≡ k.dominating → earlier g h ≡ true → earlier h k ≡ true → earlier g k ≡ true
 earlier_transitive g h k lg lh lk u v =
     earlier_chain (left g) (left h) (left k) (swept_first g h) (swept_first h k) (swept_first g k)
     (λ e f s t. sweeps_back g k (u ∙ v) (swept_transitive (across g) (rise g) (across h) (rise h) (across k) (rise k) (alike g h k lg lh lk e f) (sweeps g h u s) (sweeps h k v t)))
-
-earlier_either : (g h gh hg : Bool) → (g ≡ h → (gh ≡ true) ⊎ (hg ≡ true)) → (cond g (h && gh) (h || gh) ≡ true) ⊎ (cond h (g && hg) (g || hg) ≡ true)
-earlier_either true true gh hg f = f refl
-earlier_either true false gh hg f = inr refl
-earlier_either false true gh hg f = inl refl
-earlier_either false false gh hg f = f refl
-
--- of one dominating point and one vector: one halfsegment
-one_of : (g h : Halfsegment) → g.dominating ≡ h.dominating → (across g ≡ across h) × (rise g ≡ rise h) → g ≡ h
-one_of g h u v =
-    let x : g.far.x ≡ h.far.x = omega (arith, lin, ap (λ p. p.x) u, v.0) in
-    let y : g.far.y ≡ h.far.y = omega (arith, lin, ap (λ p. p.y) u, v.1) in
-    λ i. record { dominating = u i; far = points_equal g.far h.far x y i }
-
-pub one_row : (g h : Halfsegment) → Long g → Long h → g.dominating ≡ h.dominating → left g ≡ left h → orientation g.far h.far g.dominating ≡ pos 0 → reach g ≡ reach h → g ≡ h
-one_row g h lg lh u e c r =
-    one_of g h u (one_vector (across g) (rise g) (across h) (rise h) (alike g h h lg lh lh e refl) (sym (orientation_is g h u) ∙ c) r)
-
-earlier_comparable : (g h : Halfsegment) → Long g → Long h → ¬ (g ≡ h) → g.dominating ≡ h.dominating → (earlier g h ≡ true) ⊎ (earlier h g ≡ true)
-earlier_comparable g h lg lh n u =
-    earlier_either (left g) (left h) (swept_first g h) (swept_first h g) (λ e. go (swept_comparable (across g) (rise g) (across h) (rise h) (alike g h h lg lh lh e refl)))
-  where
-    go : ((across g ≡ across h) × (rise g ≡ rise h)) ⊎ (Sweeps g h ⊎ Sweeps h g) → (swept_first g h ≡ true) ⊎ (swept_first h g ≡ true)
-    go (inl v) = absurd (n (one_of g h u v))
-    go (inr (inl s)) = inl (sweeps_back g h u s)
-    go (inr (inr s)) = inr (sweeps_back h g (sym u) s)
 
 pub no_turn : (h : Halfsegment) → orientation h.far h.far h.dominating ≡ pos 0
 no_turn h = ring (across h ∷ rise h ∷ []) (cross_e (var 0) (var 1) (var 0) (var 1)) nought refl
@@ -261,12 +187,12 @@ earlier_self h = go (left h) (swept_first h h) (still (orientation h.far h.far h
     still : (c a : ℤ) → c ≡ pos 0 → (lt_z (pos 0) c || (eq_int c (pos 0) && lt_z a a)) ≡ false
     still c a e = grind (arith, lin)
 
-    go : (l s : Bool) → s ≡ false → cond l (l && s) (l || s) ≡ false
+    go : (l s : Bool) → s ≡ false → by_side l l s ≡ false
     go true s e = e
     go false s e = e
 
 -- `comes_before` as a proposition: by dominating point, or at one
-abbrev First : Halfsegment → Halfsegment → Type 0
+abbrev pub First : Halfsegment → Halfsegment → Type 0
 First g h = (precedes g.dominating h.dominating ≡ true) ⊎ ((g.dominating ≡ h.dominating) × (earlier g h ≡ true))
 
 first_of : (g h : Halfsegment) → comes_before g h ≡ true → First g h
@@ -276,7 +202,7 @@ first_of g h e = go (or_cases (precedes g.dominating h.dominating) (same_point g
     go (inl p) = inl p
     go (inr p) = let b = and_parts (same_point g.dominating h.dominating) (earlier g h) p in inr (same_point_is g.dominating h.dominating b.0, b.1)
 
-first_back : (g h : Halfsegment) → First g h → comes_before g h ≡ true
+pub first_back : (g h : Halfsegment) → First g h → comes_before g h ≡ true
 first_back g h (inl p) = rw p
 first_back g h (inr (e, p)) = go (precedes g.dominating h.dominating) (same_point g.dominating h.dominating) (earlier g h) (same_point_holds g.dominating h.dominating e) p
   where
@@ -289,31 +215,11 @@ first_transitive g h k lg lh lk (inl p) (inr (v, q)) = inl (subst (λ z. precede
 first_transitive g h k lg lh lk (inr (u, p)) (inl q) = inl (subst (λ z. precedes z k.dominating ≡ true) (sym u) q)
 first_transitive g h k lg lh lk (inr (u, p)) (inr (v, q)) = inr (u ∙ v, earlier_transitive g h k lg lh lk u v p q)
 
-first_comparable : (g h : Halfsegment) → Long g → Long h → ¬ (g ≡ h) → First g h ⊎ First h g
-first_comparable g h lg lh n = go (lex g.dominating h.dominating)
-  where
-    there : (u : g.dominating ≡ h.dominating) → (earlier g h ≡ true) ⊎ (earlier h g ≡ true) → First g h ⊎ First h g
-    there u (inl p) = inl (inr (u, p))
-    there u (inr p) = inr (inr (sym u, p))
-
-    go : Lex g.dominating h.dominating → First g h ⊎ First h g
-    go (first p) = inl (inl (of_before g.dominating h.dominating p))
-    go (one u) = there u (earlier_comparable g h lg lh n u)
-    go (last p) = inr (inl (of_before h.dominating g.dominating p))
-
-never : (h : Halfsegment) → comes_before h h ≡ false
-never h = go (precedes h.dominating h.dominating) (same_point h.dominating h.dominating) (earlier h h) (precedes_self h.dominating) (earlier_self h)
+pub comes_before_self : (h : Halfsegment) → comes_before h h ≡ false
+comes_before_self h = go (precedes h.dominating h.dominating) (same_point h.dominating h.dominating) (earlier h h) (precedes_self h.dominating) (earlier_self h)
   where
     go : (a b c : Bool) → a ≡ false → c ≡ false → (a || (b && c)) ≡ false
     go a b c d e = grind arith
 
-pub row_order : RowOrder
-row_order = record {
-  irreflexive = never;
-  transitive = λ g h k lg lh lk e f. first_back g k (first_transitive g h k lg lh lk (first_of g h e) (first_of h k f));
-  comparable = λ g h lg lh n. compared g h (first_comparable g h lg lh n);
-}
-  where
-    compared : (g h : Halfsegment) → First g h ⊎ First h g → (comes_before g h ≡ true) ⊎ (comes_before h g ≡ true)
-    compared g h (inl p) = inl (first_back g h p)
-    compared g h (inr p) = inr (first_back h g p)
+pub comes_before_transitive : (g h k : Halfsegment) → Long g → Long h → Long k → comes_before g h ≡ true → comes_before h k ≡ true → comes_before g k ≡ true
+comes_before_transitive g h k lg lh lk e f = first_back g k (first_transitive g h k lg lh lk (first_of g h e) (first_of h k f))
