@@ -1,6 +1,6 @@
 pub mod RowLists
-pub mod Moves
-pub mod Entries
 pub mod RowBytes
+pub mod Blocks
+pub mod Placed
 pub mod Shift
-pub mod Fronts
+pub mod Comparing

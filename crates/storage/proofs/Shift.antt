@@ -1,8 +1,9 @@
 -- Shifting there and back, and what it leaves of the clauses of a store. The main lemmas are `there_and_back`, `insert_moved` and `remove_moved`.
 use Rattle.std.proofs.Common.{◌≡◌, ℕ, zero, suc, List, [], ◌∷◌, map, ℤ, ◌+ℤ◌, ◌-ℤ◌, Ok, Err, Result, refl, ap, ◌∙◌, arith, w32, SFits}
+use Rattle.std.proofs.Math.IntN.{neg_ℤ}
 use Rattle.std.specs.List.{insert, remove}
-use Rattle.std.specs.Int.{int_wrap}
-use Rattle.std.proofs.lemmas.Int.{ints, int_wrap-add_left, int_wrap_fits}
+use Rattle.std.specs.Int.{int_wrap, int_wrapping_neg}
+use Rattle.std.proofs.lemmas.Int.{ints, int_wrap-add_left, int_wrap-add_right, int_wrap_fits, wrapping_neg_is}
 use Rattle.std.proofs.lemmas.List.{map-append, take-map, drop-map, length-map}
 use Rattle.plane.specs.declared.halfsegment.Halfsegment.{Halfsegment}
 use Rattle.storage.specs.declared.interface.NoSuchPlace.{NoSuchPlace}
@@ -20,6 +21,18 @@ pub there_and_back : (dx dy : ℤ) (r : Halfsegment) → Fits32 r → moved dx d
 there_and_back dx dy r f = λ i. record {
   dominating = record { x = there r.dominating.x dx f.cx i; y = there r.dominating.y dy f.cy i };
   far = record { x = there r.far.x dx f.fx i; y = there r.far.y dy f.fy i };
+}
+
+back : (x d e : ℤ) → SFits w32 d → e ≡ int_wrapping_neg w32 d → int_wrap w32 (x +ℤ e) ≡ int_wrap w32 (x -ℤ d)
+back x d e f is =
+    let same : x +ℤ neg_ℤ d ≡ x -ℤ d = omega (arith, ints) in
+    ap (λ z. int_wrap w32 (x +ℤ z)) (is ∙ wrapping_neg_is w32 d f) ∙ int_wrap-add_right w32 x (neg_ℤ d) ∙ ap (int_wrap w32) same
+
+-- to move by the opposite is to move back
+pub moved_opposite : (dx dy ex ey : ℤ) (r : Halfsegment) → SFits w32 dx → SFits w32 dy → ex ≡ int_wrapping_neg w32 dx → ey ≡ int_wrapping_neg w32 dy → moved ex ey r ≡ moved_back dx dy r
+moved_opposite dx dy ex ey r f g p q = λ i. record {
+  dominating = record { x = back r.dominating.x dx ex f p i; y = back r.dominating.y dy ey g q i };
+  far = record { x = back r.far.x dx ex f p i; y = back r.far.y dy ey g q i };
 }
 
 pub row_at_ok : (f : Halfsegment → Halfsegment) (xs : List Halfsegment) (i : ℕ) (r : Halfsegment) → Ok r ≡ row_at xs i → Ok (f r) ≡ row_at (map f xs) i

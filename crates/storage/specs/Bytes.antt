@@ -1,13 +1,12 @@
 -- How a row lies in bytes: dominating x, dominating y, far x, far y, four bytes each, two's complement, highest first.
 use Rattle.std.specs.Prelude.{ℕ, ◌+◌, ◌*◌, ◌/◌, ◌%◌, cond, List, [], ◌∷◌, ◌++◌, map, length, ℤ, Some, None, Option, nat_lt, slice_index}
-use Rattle.std.specs.Int.{w32}
-use Rattle.std.proofs.Common.{to_z, of_z}
+use Rattle.std.specs.Int.{w32, cast_signed, cast_unsigned}
 use Rattle.std.specs.List.{range_with_len}
 use Rattle.plane.specs.declared.halfsegment.Halfsegment.{Halfsegment}
 
 -- the number in the four bytes at the place p
 abbrev pub word_at : List ℕ → ℕ → ℤ
-word_at bs p = to_z w32 (slice_index bs p * 16777216 + slice_index bs (p + 1) * 65536 + slice_index bs (p + 2) * 256 + slice_index bs (p + 3))
+word_at bs p = cast_signed w32 (slice_index bs p * 16777216 + slice_index bs (p + 1) * 65536 + slice_index bs (p + 2) * 256 + slice_index bs (p + 3))
 
 abbrev pub row_at_byte : List ℕ → ℕ → Halfsegment
 row_at_byte bs p = record {
@@ -17,7 +16,7 @@ row_at_byte bs p = record {
 
 -- the four bytes of a number
 abbrev pub word_bytes : ℤ → List ℕ
-word_bytes z = (of_z w32 z / 16777216 % 256) ∷ (of_z w32 z / 65536 % 256) ∷ (of_z w32 z / 256 % 256) ∷ (of_z w32 z % 256) ∷ []
+word_bytes z = (cast_unsigned w32 z / 16777216 % 256) ∷ (cast_unsigned w32 z / 65536 % 256) ∷ (cast_unsigned w32 z / 256 % 256) ∷ (cast_unsigned w32 z % 256) ∷ []
 
 abbrev pub row_bytes : Halfsegment → List ℕ
 row_bytes r = word_bytes r.dominating.x ++ (word_bytes r.dominating.y ++ (word_bytes r.far.x ++ word_bytes r.far.y))

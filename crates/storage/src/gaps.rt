@@ -7,9 +7,7 @@ pub(crate) fn open_gap<T: Copy>(items: &mut [T], count: usize, at: usize, n: usi
     requires { (at ≤ count) × (count + n ≤ length items.old) }
     ensures { items.new ≡ opened items.old count at n }
 {
-    for k in (at..count).rev() {
-        items[k + n] = items[k];
-    }
+    items.copy_within(at..count, at + n);
 }
 
 /// Moves the entries from `at + n` to `count` down by `n`.
@@ -17,7 +15,5 @@ pub(crate) fn close_gap<T: Copy>(items: &mut [T], count: usize, at: usize, n: us
     requires { (at + n ≤ count) × (count ≤ length items.old) }
     ensures { items.new ≡ closed items.old count at n }
 {
-    for k in at + n..count {
-        items[k - n] = items[k];
-    }
+    items.copy_within(at + n..count, at);
 }

@@ -1,12 +1,13 @@
 //! A source stands for a list of halfsegments (rows); a store is a source that can be changed and has a room.
 ghost use Rattle.std.specs.Prelude.{◌≡◌, ℕ, ◌≤◌, List, length};
 ghost use Rattle.plane.specs.declared.halfsegment.Halfsegment.{Halfsegment};
+ghost use Rattle.storage.specs.declared.interface.InsertRefusal.TheVariants.{NoPlace};
 ghost use Rattle.storage.specs.Rows.{insert_number, Inserted, place_number, Removed, row_at};
 
 use plane::Halfsegment;
 
 /// There is no row at the place.
-#[derive(Clone, Copy, PartialEq, Eq)]
+#[derive(Clone, Copy, Debug, PartialEq, Eq)]
 pub struct NoSuchPlace;
 
 impl NoSuchPlace {
@@ -18,7 +19,7 @@ impl NoSuchPlace {
 }
 
 /// Why a row was not inserted.
-#[derive(Clone, Copy, PartialEq, Eq)]
+#[derive(Clone, Copy, Debug, PartialEq, Eq)]
 pub enum InsertRefusal {
     NoPlace(NoSuchPlace),
     NoRoom,
@@ -32,6 +33,14 @@ impl InsertRefusal {
             InsertRefusal::NoPlace(fault) => fault.number(),
             InsertRefusal::NoRoom => 5,
         }
+    }
+}
+
+impl From<NoSuchPlace> for InsertRefusal {
+    ghost from_gives = { λ fault refusal. refusal ≡ NoPlace fault };
+
+    fn from(fault: NoSuchPlace) -> InsertRefusal {
+        InsertRefusal::NoPlace(fault)
     }
 }
 

@@ -1,96 +1,81 @@
 //! A list kept in a lent slice, with its count.
-ghost use Rattle.std.specs.Prelude.{◌≡◌, ℕ, ◌+◌, ◌-◌, ◌≤◌, min, ◌++◌, length, take, drop};
+ghost use Rattle.std.specs.Prelude.{◌≡◌, ℕ, ◌+◌, ◌-◌, ◌*◌, ◌/◌, ◌<◌, ◌≤◌, min, [], ◌∷◌, ◌++◌, length, take, drop};
 ghost use Rattle.std.specs.List.{between};
-ghost use Rattle.storage.specs.Entries.{limit, size, entries, whole, lender, over};
 
+use crate::entry::Entry;
 use crate::gaps::{close_gap, open_gap};
+use plane::Halfsegment;
 
-/// The first `count` entries of a lent slice, of which there are never more than `most`.
-///
-/// It has no ghost field: a struct with one beside a `&mut` slice can neither lend the slice on nor be held by
-/// value in another struct. So a count past the limit is read as the limit, and each call holds of any value.
+/// Blocks of `N` entries, one after the other at the front of a lent slice, of which there are never more than `limit`.
 #[derive(Drop)]
-pub(crate) struct Kept<'a, T> {
-    items: &'a mut [T],
-    most: usize,
+pub(crate) struct Kept<'a, E, const N: usize> {
+    items: &'a mut [E],
+    limit: usize,
     count: usize,
+    ghost within: { count ≤ limit },
+    ghost fits: { N * limit ≤ length items.now },
 }
 
-impl<'a, T: Copy> Kept<'a, T> {
+impl<'a, E: Entry<N>, const N: usize> Kept<'a, E, N> {
+    ghost use Rattle.storage.specs.Entries.{entries, KeepsMemory, lender, limit, size, whole};
+
     /// An empty list in the slice.
-    pub(crate) fn new(items: &'a mut [T], most: usize) -> Kept<'a, T>
-        ensures limit { limit result ≡ min most (length items.old) }
+    pub(crate) fn new(items: &'a mut [E], most: usize) -> Kept<'a, E, N>
+        ensures limit { limit result ≡ min most (length items.old / N) }
         ensures empty { size result ≡ 0 }
         ensures same { whole result ≡ items.old }
         ensures lender { lender result ≡ items.entry.ghost_name }
     {
+        let limit = most.min(items.len() / N);
         Kept {
             items,
-            most,
+            limit,
             count: 0,
         }
     }
 
-    /// How many entries fit.
+    /// How many blocks fit.
     pub(crate) fn limit(&self) -> usize
         ensures { result ≡ limit self.now }
     {
-        self.most.min(self.items.len())
+        self.limit
     }
 
     pub(crate) fn len(&self) -> usize
-        ensures { result ≡ size self.now }
+        ensures value { result ≡ size self.now }
+        ensures within { size self.now ≤ limit self.now }
     {
-        self.count.min(self.limit())
+        self.count
     }
 
-    /// The `n` entries from the place `at`.
-    pub(crate) fn part(&self, at: usize, n: usize) -> &[T]
-        requires { at + n ≤ size self.now }
-        ensures { result.now ≡ between at (at + n) (entries self.now) }
+    /// The row of block `i`.
+    pub(crate) fn row(&self, i: usize) -> Halfsegment
+        requires { i < size self.now }
+        ensures { E.rows_of (between (N * i) (N * i + N) (entries self.now)) ≡ result ∷ [] }
     {
-        &self.items[at..at + n]
+        E::read(&self.items[N * i..N * i + N])
     }
 
-    /// Keeps the first `n` entries.
-    pub(crate) fn cut(&mut self, n: usize)
-        requires { n ≤ size self.old }
-        ensures size { size self.new ≡ n }
-        ensures entries { entries self.new ≡ take n (entries self.old) }
-        ensures limit { limit self.new ≡ limit self.old }
-        ensures whole { whole self.new ≡ whole self.old }
-        ensures lender { lender self.new ≡ lender self.old }
+    /// Puts a block with the row at place `i`; the later ones move on.
+    pub(crate) fn insert(&mut self, i: usize, row: Halfsegment)
+        requires { (i ≤ size self.old) × (size self.old < limit self.old) }
+        ensures size { size self.new ≡ size self.old + 1 }
+        ensures entries { entries self.new ≡ take (N * i) (entries self.old) ++ (E.entries_of row ++ drop (N * i) (entries self.old)) }
+        ensures memory { KeepsMemory self.old self.new }
     {
-        self.count = n;
+        open_gap(self.items, N * self.count, N * i, N);
+        E::write(&mut self.items[N * i..N * i + N], row);
+        self.count += 1;
     }
 
-    /// Puts the new entries at the place `at`; the later ones move on.
-    pub(crate) fn insert(&mut self, at: usize, new: &[T])
-        requires { (at ≤ size self.old) × (size self.old + length new.now ≤ limit self.old) }
-        ensures size { size self.new ≡ size self.old + length new.now }
-        ensures entries { entries self.new ≡ take at (entries self.old) ++ (new.now ++ drop at (entries self.old)) }
-        ensures limit { limit self.new ≡ limit self.old }
-        ensures whole { whole self.new ≡ over (entries self.new) (whole self.old) }
-        ensures lender { lender self.new ≡ lender self.old }
+    /// Takes out block `i`; the later ones close up.
+    pub(crate) fn remove(&mut self, i: usize)
+        requires { i < size self.old }
+        ensures size { size self.new + 1 ≡ size self.old }
+        ensures entries { entries self.new ≡ take (N * i) (entries self.old) ++ drop (N * i + N) (entries self.old) }
+        ensures memory { KeepsMemory self.old self.new }
     {
-        let n = new.len();
-        let count = self.len();
-        open_gap(self.items, count, at, n);
-        self.items[at..at + n].copy_from_slice(new);
-        self.count = count + n;
-    }
-
-    /// Takes `n` entries out at the place `at`; the later ones close up.
-    pub(crate) fn remove(&mut self, at: usize, n: usize)
-        requires { at + n ≤ size self.old }
-        ensures size { size self.new ≡ size self.old - n }
-        ensures entries { entries self.new ≡ take at (entries self.old) ++ drop (at + n) (entries self.old) }
-        ensures limit { limit self.new ≡ limit self.old }
-        ensures whole { whole self.new ≡ over (entries self.new) (whole self.old) }
-        ensures lender { lender self.new ≡ lender self.old }
-    {
-        let count = self.len();
-        close_gap(self.items, count, at, n);
-        self.count = count - n;
+        close_gap(self.items, N * self.count, N * i, N);
+        self.count -= 1;
     }
 }

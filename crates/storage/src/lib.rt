@@ -2,6 +2,7 @@
 #![tactic(auto)]
 
 mod bytes;
+mod entry;
 mod equality;
 mod gaps;
 mod interface;
@@ -9,10 +10,11 @@ mod kept;
 mod records;
 mod rows;
 mod shifted;
+mod stores;
 
-pub use bytes::{ByteStore, row_at, row_bytes};
+pub use bytes::{ROW_BYTES, row_at, row_bytes};
 pub use equality::same;
 pub use interface::{InsertRefusal, NoSuchPlace, Source, Store};
-pub use records::RecordStore;
 pub use rows::Rows;
 pub use shifted::ShiftedStore;
+pub use stores::{ByteStore, MOST_ROWS, RecordStore};

@@ -1,10 +1,17 @@
-use Rattle.std.proofs.Common.{refl, arith}
-use Rattle.storage.specs.Entries.{size}
-use Rattle.storage.proofs.Entries.{closed_done}
+use Rattle.std.proofs.Common.{refl}
+use Rattle.storage.proofs.Blocks.{block_taken}
 use Rattle.storage.proofs.kept.Kept.remove.Goals as goal
 
-pub returns : goal.returns
-returns g c =
+pub returns-clause-entries : goal.returns-clause-entries
+returns-clause-entries g c =
     let s = c.args.self.now in
-    let d = closed_done s.most s.items.now c.len-count.result (size s) c.args.at c.args.n c.close_gap.new.items c.len-count.ensures (omega arith) (omega arith) c.close_gap.ensures in
-    record { size = d.size; limit = d.limit; entries = d.entries; whole = d.whole; lender = refl }
+    (block_taken g.row.N s.items.now s.limit s.count c.args.i s.within s.fits c.close_gap.new.items c.requires c.close_gap.ensures).entries
+
+pub returns-clause-memory : goal.returns-clause-memory
+returns-clause-memory g c =
+    let s = c.args.self.now in
+    record {
+      limit = refl;
+      whole = (block_taken g.row.N s.items.now s.limit s.count c.args.i s.within s.fits c.close_gap.new.items c.requires c.close_gap.ensures).whole;
+      lender = refl;
+    }

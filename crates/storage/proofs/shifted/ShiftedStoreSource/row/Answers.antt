@@ -7,7 +7,7 @@ use Rattle.storage.proofs.shifted.ShiftedStoreSource.row.Goals as goal
 pub returns-in_err-row : goal.returns-in_err-row
 returns-in_err-row g c =
     let p = err_from_is_err_and c.from_residual.result c.from_residual.ensures.1 in
-    rw (p.1, p.2) (row_at_err (moved c.args.self.now.dx c.args.self.now.dy) _ c.args.i _ c.in_err-row.ensures)
+    rw (p.1, p.2) (row_at_err (moved c.args.self.now.offset.dx c.args.self.now.offset.dy) _ c.args.i _ c.in_err-row.ensures)
 
 pub returns : goal.returns
-returns g c = ap Ok c.out.ensures ∙ row_at_ok (moved c.args.self.now.dx c.args.self.now.dy) _ c.args.i _ c.in_ok-row.ensures
+returns g c = ap Ok c.moved.ensures ∙ row_at_ok (moved c.args.self.now.offset.dx c.args.self.now.offset.dy) _ c.args.i _ c.in_ok-row.ensures
