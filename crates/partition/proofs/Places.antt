@@ -1,5 +1,10 @@
 -- First places, the codes that a front of a list holds, and the list of each code once.
-use Rattle.std.proofs.Common.{◌≡◌, ℕ, zero, suc, ◌<◌, ◌≤◌, Bool, true, false, cond, ◌||◌, eqb, ltb, ◌⊎◌, List, [], ◌∷◌, ◌++◌, length, get_or, take, drop, fold, sym, refl, ap, ◌∙◌, inl, inr, arith}
+use Rattle.std.proofs.Common.{◌≡◌, ℕ, zero, suc, ◌<◌, ◌≤◌, Bool, true, false, cond, not, ◌||◌, eqb, ltb, ◌⊎◌, List, [], ◌∷◌, ◌++◌, map, length, get_or, take, drop, Some, None, Option, fold, sym, refl, ap, ◌∙◌, inl, inr, arith, one-add, length-take}
+use Rattle.std.specs.List.{position_or_len}
+use Rattle.std.specs.Option.{unwrap_or}
+use Rattle.std.proofs.lemmas.List.Folds.{length-prefix_len}
+use Rattle.std.proofs.lemmas.List.Recursion.{is_position_or_len}
+use Rattle.std.proofs.lemmas.Bool.Decides.{nat_tests}
 use mathlib.Core.Bool.{or_assoc, or-false}
 use lib.Dec.{leb-suc-suc}
 use Rattle.std.proofs.lemmas.List.{take_all}
@@ -23,10 +28,22 @@ place_hit (d ∷ ds) c h = go (cases_eq d c) h (place_hit ds c)
     go (inl e) h ih = rw (eq-eqb d c e) e
     go (inr e) h ih = let k = rw (ne_eqb d c e) at h in rw (ne_eqb d c e) (ih (omega arith))
 
--- no code of the list is c
-pub place_past : (cs : List ℕ) (c : ℕ) → ((k : ℕ) → k < length cs → get_or cs k 0 ≡ c → ⊥) → place_of cs c ≡ length cs
-place_past [] c f = refl
-place_past (d ∷ ds) c f = rw (ne_eqb d c (f 0 (omega arith))) (ap suc (place_past ds c (λ k h e. f (suc k) (omega arith) e)))
+unwrapped : (p n : ℕ) → p ≤ n → unwrap_or (cond (ltb p n) (Some p) None) n ≡ p
+unwrapped p n l = grind (arith, nat_tests)
+
+-- what a search over records finds is the place of the code, or the end
+module _ {X : Type 0} (code : X → ℕ) (c : ℕ) (xs : List X) where
+  abbrev pub has_code : X → Bool
+  has_code x = eqb (code x) c
+
+  place_is : place_of (map code xs) c ≡ position_or_len has_code xs
+  place_is = is_position_or_len (λ (ys : List X). place_of (map code ys) c) has_code refl (λ x ys. ap (λ n. cond (has_code x) 0 n) (sym (one-add (place_of (map code ys) c)))) xs
+
+  pub place_found : (r : Option ℕ) → r ≡ cond (ltb (position_or_len has_code xs) (length xs)) (Some (position_or_len has_code xs)) None → unwrap_or r (length xs) ≡ place_of (map code xs) c
+  place_found r e =
+      let p = position_or_len has_code xs in
+      let within : p ≤ length xs = omega (arith, length-prefix_len (λ x. not (has_code x)) xs, length-take p xs) in
+      ap (λ o. unwrap_or o (length xs)) e ∙ unwrapped p (length xs) within ∙ sym place_is
 
 pub place_first : (cs : List ℕ) (c i : ℕ) → i < length cs → get_or cs i 0 ≡ c → ((k : ℕ) → k < i → get_or cs k 0 ≡ c → ⊥) → place_of cs c ≡ i
 place_first [] c i h e f = absurd (omega arith)

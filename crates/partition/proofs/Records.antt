@@ -1,19 +1,11 @@
 -- Records that hold a code: maps in place from the front and from the end, and what they do to the codes.
-use Rattle.std.proofs.Common.{◌≡◌, ℕ, zero, suc, ◌+◌, ◌<◌, ◌≤◌, List, [], ◌∷◌, ◌++◌, map, length, get_or, take, drop, set, sym, refl, ap, ◌∙◌, append-nil, arith}
-use Rattle.std.proofs.lemmas.List.Edits.{map_over_more}
-use Rattle.std.proofs.lemmas.List.{set-get_or, take_all, drop_all, length-map, get_or-map}
+use Rattle.std.proofs.Common.{◌≡◌, ℕ, zero, suc, ◌<◌, ◌≤◌, List, [], ◌∷◌, ◌++◌, map, length, get_or, take, drop, set, sym, refl, ap, ◌∙◌, append-nil, arith}
+use Rattle.std.proofs.lemmas.List.{take_all, drop_all, length-map, get_or-map}
 use Rattle.partition.specs.Codes.{in_codes}
 use Rattle.partition.specs.Numbers.{place_of}
 use Rattle.partition.proofs.Places.{place_same}
 
--- a map in place, from the front: one more written, or left as it is
-module _ {X : Type 0} (h : X → X) (xs ys zs : List X) (i : ℕ) (x : X) (lt : i < length xs) (inv : ys ≡ map h (take i xs) ++ drop i xs) (is : x ≡ get_or ys i x) where
-  pub written : (v : X) → v ≡ h x → zs ≡ set ys i v → zs ≡ map h (take (i + 1) xs) ++ drop (i + 1) xs
-  written v e z = z ∙ ap (set ys i) e ∙ map_over_more h xs ys i x lt inv is
-
-  pub skipped : h x ≡ x → zs ≡ ys → zs ≡ map h (take (i + 1) xs) ++ drop (i + 1) xs
-  skipped e z = z ∙ sym (set-get_or ys i x) ∙ ap (set ys i) (sym is ∙ sym e) ∙ map_over_more h xs ys i x lt inv is
-
+-- a map in place, from the front
 pub front_at : {X : Type 0} (h : X → X) (xs : List X) (i k : ℕ) (d : X) → k < i → i ≤ length xs → get_or (map h (take i xs) ++ drop i xs) k d ≡ h (get_or xs k d)
 front_at h xs zero k d l r = absurd (omega arith)
 front_at h [] (suc i) k d l r = absurd (omega arith)
@@ -49,6 +41,9 @@ module _ {X : Type 0} (code : X → ℕ) (recode : X → ℕ → X) (reads : (x 
   pub codes_after : (f : ℕ → ℕ) (xs : List X) → map code (in_codes code recode f xs) ≡ map f (map code xs)
   codes_after f [] = refl
   codes_after f (x ∷ xs) = λ i. reads x (f (code x)) i ∷ codes_after f xs i
+
+  pub codes_of : (f : ℕ → ℕ) (xs ys : List X) → ys ≡ in_codes code recode f xs → map code ys ≡ map f (map code xs)
+  codes_of f xs ys e = ap (map code) e ∙ codes_after f xs
 
   -- f and then g is k, at each code of the list
   pub twice : ((x : X) (c d : ℕ) → recode (recode x c) d ≡ recode x d) → (f g k : ℕ → ℕ) (xs : List X) → ((i : ℕ) → i < length (map code xs) → g (f (get_or (map code xs) i 0)) ≡ k (get_or (map code xs) i 0)) → in_codes code recode g (in_codes code recode f xs) ≡ in_codes code recode k xs

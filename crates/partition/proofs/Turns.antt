@@ -1,10 +1,11 @@
 -- One turn of the loop that numbers codes which are first places.
 use Rattle.std.proofs.Common.{◌≡◌, ℕ, ◌+◌, ◌<◌, ◌≤◌, List, ◌++◌, map, length, get_or, take, drop, set, sym, ap, ◌∙◌, arith}
 use Rattle.std.proofs.lemmas.List.{length-map, get_or-map}
+use Rattle.std.proofs.lemmas.List.Edits.{map_over_more}
 use Rattle.partition.specs.Numbers.{place_of, count_of, number_of, OwnFirsts}
 use Rattle.partition.proofs.Places.{place_le, place_hit}
 use Rattle.partition.proofs.Numbers.{count_new, number_new, count_old}
-use Rattle.partition.proofs.Records.{written, front_at, rest_at}
+use Rattle.partition.proofs.Records.{front_at, rest_at}
 
 -- the labels and the count before place i
 pub record NumberedBefore {X : Type 0} (code : X → ℕ) (recode : X → ℕ → X) (xs ys : List X) (i n : ℕ) : Type 0 where
@@ -36,20 +37,20 @@ module _ {X : Type 0} (code : X → ℕ) (recode : X → ℕ → X) (xs ys : Lis
       omega arith
 
   -- the first of its code
-  pub turn_new : (zs : List X) (v : X) → code x ≡ i → v ≡ recode x (n + 1) → zs ≡ set ys i v → NumberedBefore code recode xs zs (i + 1) (n + 1)
-  turn_new zs v e made z =
+  pub turn_new : (v : X) → code x ≡ i → v ≡ recode x (n + 1) → NumberedBefore code recode xs (set ys i v) (i + 1) (n + 1)
+  turn_new v e made =
       let first : place_of cs (get_or cs i 0) ≡ i = own i in_codes_list ∙ sym code_here ∙ e in
       let k : number_of cs (code x) ≡ n + 1 = ap (number_of cs) code_here ∙ number_new cs i in_codes_list first ∙ ap (λ m. m + 1) (sym inv.counted) in
       let l = inv.small in
       record {
-        done = written numbered_one xs ys zs i x lt inv.done is v (made ∙ ap (recode x) (sym k)) z;
+        done = ap (set ys i) (made ∙ ap (recode x) (sym k)) ∙ map_over_more numbered_one xs ys i x lt inv.done is;
         counted = ap (λ m. m + 1) inv.counted ∙ sym (count_new cs i in_codes_list first);
         small = omega arith;
       }
 
   -- a later one: y stands at the first place
-  pub turn_old : ((y : X) (c : ℕ) → code (recode y c) ≡ c) → (zs : List X) (v y : X) → (code x ≡ i → ⊥) → y ≡ get_or ys (code x) y → v ≡ recode x (code y) → zs ≡ set ys i v → NumberedBefore code recode xs zs (i + 1) n
-  turn_old reads zs v y e at made z =
+  pub turn_old : ((y : X) (c : ℕ) → code (recode y c) ≡ c) → (v y : X) → (code x ≡ i → ⊥) → y ≡ get_or ys (code x) y → v ≡ recode x (code y) → NumberedBefore code recode xs (set ys i v) (i + 1) n
+  turn_old reads v y e at made =
       let le = code_le in
       let before : code x < i = omega arith in
       let p : place_of cs (get_or cs i 0) ≡ code x = own i in_codes_list ∙ sym code_here in
@@ -59,7 +60,7 @@ module _ {X : Type 0} (code : X → ℕ) (recode : X → ℕ → X) (xs ys : Lis
       let code_y : code y ≡ number_of cs (code x) = ap code y_is ∙ reads (get_or xs (code x) y) (number_of cs (code (get_or xs (code x) y))) ∙ ap (number_of cs) code_first in
       let l = inv.small in
       record {
-        done = written numbered_one xs ys zs i x lt inv.done is v (made ∙ ap (recode x) code_y) z;
+        done = ap (set ys i) (made ∙ ap (recode x) code_y) ∙ map_over_more numbered_one xs ys i x lt inv.done is;
         counted = inv.counted ∙ sym (count_old cs i in_codes_list (omega arith));
         small = omega arith;
       }

@@ -9,10 +9,9 @@ pub fn relabel<F, T: Coded<F>>(labels: &mut [T], from: usize, to: usize)
     ensures labels { labels.new ≡ in_codes T.code T.recode (recoded from to) labels.old }
     ensures codes { map T.code labels.new ≡ relabelled from to (map T.code labels.old) }
 {
-    for i in 0..labels.len() {
-        let x = labels[i];
-        if x.code() == from {
-            labels[i] = x.with_code(to);
+    for label in labels.iter_mut() {
+        if label.code() == from {
+            *label = label.with_code(to);
         }
     }
 }
@@ -23,10 +22,7 @@ pub fn join<F, T: Coded<F>>(labels: &mut [T], i: usize, j: usize)
     ensures labels { labels.new ≡ joined_in T.code T.recode labels.old i j }
     ensures codes { map T.code labels.new ≡ merged (map T.code labels.old) (i, j) }
 {
-    let n = labels.len();
-    if i < n && j < n {
-        let x = labels[i];
-        let y = labels[j];
+    if let (Some(x), Some(y)) = (labels.get(i), labels.get(j)) {
         let from = x.code();
         let to = y.code();
         relabel(labels, from, to);
@@ -34,8 +30,6 @@ pub fn join<F, T: Coded<F>>(labels: &mut [T], i: usize, j: usize)
 }
 
 /// Joins made one after the other give one code to exactly the places that belong together.
-pub fn joins_make_classes() -> u8
+pub fn joins_make_classes()
     ensures { Classes }
-{
-    0
-}
+{}

@@ -10,23 +10,21 @@ use crate::codes::Coded;
 pub fn first_place<F, T: Coded<F>>(labels: &[T], c: usize) -> usize
     ensures { result ≡ place_of (map T.code labels.now) c }
 {
-    for i in 0..labels.len() {
-        let x = labels[i];
-        if x.code() == c {
-            return i;
-        }
-    }
-    labels.len()
+    labels
+        .iter()
+        .position(|x| x.code() == c)
+        .unwrap_or(labels.len())
 }
 
 /// Each code becomes the first place that has it. From the last place down, so that what is searched is not yet changed.
 fn to_first_places<F, T: Coded<F>>(labels: &mut [T])
     ensures { labels.new ≡ in_codes T.code T.recode (place_of (map T.code labels.old)) labels.old }
 {
+    // By place: a proof learns nothing of the slice behind a `split_last_mut` that moves down it.
     for i in (0..labels.len()).rev() {
         let x = labels[i];
-        let p = first_place(labels, x.code());
-        labels[i] = x.with_code(p);
+        let first = first_place(labels, x.code());
+        labels[i] = x.with_code(first);
     }
 }
 
@@ -37,16 +35,17 @@ fn number_places<F, T: Coded<F>>(labels: &mut [T]) -> usize
     ensures count { result ≡ count_of (map T.code labels.old) }
 {
     let mut count = 0;
+    // By place: what is written at one place is read at an earlier one.
     for i in 0..labels.len() {
         let x = labels[i];
-        let c = x.code();
-        if c == i {
+        let first = x.code();
+        let number = if first == i {
             count += 1;
-            labels[i] = x.with_code(count);
+            count
         } else {
-            let y = labels[c];
-            labels[i] = x.with_code(y.code());
-        }
+            labels[first].code()
+        };
+        labels[i] = x.with_code(number);
     }
     count
 }
@@ -64,12 +63,10 @@ pub fn number<F, T: Coded<F>>(labels: &mut [T]) -> usize
 
 /// What numbers say: they tell codes apart, run from 1 to the count without gaps, rise with first places, and no other
 /// numbers do. After joins, two places have one number exactly where they belong together.
-pub fn numbers_tell_classes() -> u8
+pub fn numbers_tell_classes()
     ensures numbered { NumbersCodes }
     ensures only { OneNumbering }
     ensures earlier { CountsEarlier }
     ensures once { EachCodeOnce }
     ensures joined { JoinsNumbered }
-{
-    0
-}
+{}

@@ -1,3 +1,4 @@
-pub mod Naturals
+pub mod Numerals
+pub mod Parts
 pub mod Fields
 pub mod Filling

@@ -1,5 +1,6 @@
 -- A row as a line of text: four whole numbers of 32 bits with single spaces between them.
 use Rattle.std.specs.Prelude.{ℕ, ◌+◌, ◌-◌, ◌*◌, Bool, true, cond, not, ◌&&◌, List, [], ◌∷◌, length, ℤ, pos, neg_ℤ, Some, None, fold, Option, ◌==◌, nat_le}
+use Rattle.std.specs.List.{slice_split}
 use Rattle.plane.specs.declared.halfsegment.Halfsegment.{Halfsegment}
 
 abbrev pub digit : ℕ → Bool
@@ -31,13 +32,8 @@ number [] = None
 number (b ∷ bs) = cond (b == 45) (negated (natural 2147483648 bs)) (positive (natural 2147483647 (b ∷ bs)))
 
 -- the pieces of a text between separators
-abbrev pub onto : ℕ → List (List ℕ) → List (List ℕ)
-onto b [] = (b ∷ []) ∷ []
-onto b (f ∷ fs) = (b ∷ f) ∷ fs
-
 abbrev pub pieces : ℕ → List ℕ → List (List ℕ)
-pieces separator [] = [] ∷ []
-pieces separator (b ∷ bs) = cond (b == separator) ([] ∷ pieces separator bs) (onto b (pieces separator bs))
+pieces separator bs = slice_split (λ b. b == separator) bs
 
 abbrev pub row_by : Option ℤ → Option ℤ → Option ℤ → Option ℤ → Option Halfsegment
 row_by None b c d = None

@@ -17,20 +17,16 @@ impl fmt::Display for VerdictLine {
     ghost output = { λ v. Some (told v.count v.answer) };
 
     fn fmt<W: fmt::Write>(&self, f: &mut fmt::Formatter<W>) -> fmt::Result {
-        let count = self.count;
         match self.answer {
-            Ok(()) => write!(f, "closed {count}"),
+            Ok(()) => write!(f, "closed {}", self.count),
             Err(refusal) => {
-                let number = refusal.number();
+                write!(f, "refused {}", refusal.number())?;
                 match refusal {
-                    CheckRefusal::Unclosed(Point { x, y }) => write!(
-                        f,
-                        "refused {number} at {x} {y}"
-                    ),
+                    CheckRefusal::Unclosed(Point { x, y }) => write!(f, " at {x} {y}"),
                     CheckRefusal::BadRow(row, _)
                     | CheckRefusal::Unsorted(row)
                     | CheckRefusal::NoTwin(row)
-                    | CheckRefusal::Improper(row) => write!(f, "refused {number} row {row}"),
+                    | CheckRefusal::Improper(row) => write!(f, " row {row}"),
                 }
             }
         }

@@ -1,22 +1,10 @@
--- Joining: the code at the first place becomes the code at the second, or nothing changes.
-use Rattle.std.proofs.Common.{◌≡◌, map, ap, ◌∙◌, arith}
-use Rattle.partition.specs.Codes.{joined_in}
-use Rattle.partition.proofs.Joins.{joined_inside, first_past, second_past, joined_codes}
+-- Joining: the code at the first place becomes the code at the second.
+use Rattle.std.proofs.Common.{◌∙◌}
+use Rattle.partition.proofs.Joins.{joined_inside}
 use Rattle.partition.proofs.joining.join.Goals as goal
-use Rattle.partition.proofs.joining.join.Goals.{else-i-n-via-then-i-n+else-j-n, else-i-n-via-else-i-n}
 
-pub returns-then-j-n : goal.returns-then-j-n
-returns-then-j-n g c =
-    let xs = c.args.labels.now in
-    let code = g.T.Coded.code in
-    let recode = g.T.Coded.recode in
-    let e : c.relabel.new.labels ≡ joined_in code recode xs c.args.i c.args.j = c.relabel.ensures.labels ∙ joined_inside code recode xs c.args.i c.args.j c.index-labels-i.result c.index-labels-j.result c.code-from.result c.code-to.result (omega arith) (omega arith) c.index-labels-i.is c.index-labels-j.is c.code-from.ensures c.code-to.ensures in
-    record { labels = e; codes = ap (map code) e ∙ joined_codes code recode xs c.args.i c.args.j g.met.T.Coded.reads }
-
-pub returns-else-i-n : goal.returns-else-i-n
-returns-else-i-n g c =
-    let xs = c.args.labels.now in
-    let code = g.T.Coded.code in
-    let recode = g.T.Coded.recode in
-    let e : xs ≡ joined_in code recode xs c.args.i c.args.j = elim c.else-i-n.branch [ else-i-n-via-then-i-n+else-j-n w ↦ second_past code recode xs c.args.i c.args.j (omega arith) | else-i-n-via-else-i-n w ↦ first_past code recode xs c.args.i c.args.j (omega arith) ] in
-    record { labels = e; codes = ap (map code) e ∙ joined_codes code recode xs c.args.i c.args.j g.met.T.Coded.reads }
+pub returns-in-Some-Some-clause-labels : goal.returns-in-Some-Some-clause-labels
+returns-in-Some-Some-clause-labels g c =
+    let at_i = c.in-Some-Some.ensures.lookup in
+    let at_j = c.in-Some-Some.ensures'.lookup in
+    c.relabel.ensures.labels ∙ joined_inside g.T.Coded.code g.T.Coded.recode c.args.labels.now c.args.i c.args.j c.in-Some-Some.x.now c.in-Some-Some.y.now c.code-from.result c.code-to.result at_i.3.0 at_j.3.0 at_i.1 at_j.1 c.code-from.ensures c.code-to.ensures

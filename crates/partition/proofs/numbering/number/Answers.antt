@@ -4,29 +4,27 @@ use Rattle.partition.specs.Codes.{in_codes}
 use Rattle.partition.specs.Numbers.{place_of, count_of, number_of, numbered, Numbered, OwnFirsts}
 use Rattle.partition.proofs.Meaning.{numbers_codes}
 use Rattle.partition.proofs.Numbers.{numbers_same, count_same, firsts_own}
-use Rattle.partition.proofs.Records.{codes_after, twice}
+use Rattle.partition.proofs.Records.{codes_of, twice}
 use Rattle.partition.proofs.numbering.number.Goals as goal
 
 pub number_places-requires : goal.number_places-requires
 number_places-requires g c =
     let xs = c.args.labels.now in
-    let code = g.T.Coded.code in
-    let e : map code c.to_first_places.new.labels ≡ map (place_of (map code xs)) (map code xs) = ap (map code) c.to_first_places.ensures ∙ codes_after code g.T.Coded.recode g.met.T.Coded.reads (place_of (map code xs)) xs in
-    subst OwnFirsts (sym e) (firsts_own (map code xs))
+    let cs = map g.T.Coded.code xs in
+    subst OwnFirsts (sym (codes_of g.T.Coded.code g.T.Coded.recode g.met.T.Coded.reads (place_of cs) xs c.to_first_places.new.labels c.to_first_places.ensures)) (firsts_own cs)
 
 pub returns : goal.returns
 returns g c =
     let xs = c.args.labels.now in
-    let ys = c.to_first_places.new.labels in
     let zs = c.number_places.new.labels in
     let code = g.T.Coded.code in
     let recode = g.T.Coded.recode in
     let met = g.met.T.Coded in
     let cs = map code xs in
     let made = c.to_first_places.ensures in
-    let first : map code ys ≡ map (place_of cs) cs = ap (map code) made ∙ codes_after code recode met.reads (place_of cs) xs in
+    let first : map code c.to_first_places.new.labels ≡ map (place_of cs) cs = codes_of code recode met.reads (place_of cs) xs c.to_first_places.new.labels made in
     let done : zs ≡ in_codes code recode (number_of cs) xs = c.number_places.ensures.labels ∙ (λ i. in_codes code recode (number_of (first i)) (made i)) ∙ twice code recode met.reads met.again (place_of cs) (number_of (map (place_of cs) cs)) (number_of cs) xs (numbers_same cs) in
-    let codes_are : map code zs ≡ numbered cs = ap (map code) done ∙ codes_after code recode met.reads (number_of cs) xs in
+    let codes_are : map code zs ≡ numbered cs = codes_of code recode met.reads (number_of cs) xs zs done in
     let count_is : c.number_places.result ≡ count_of cs = c.number_places.ensures.count ∙ ap count_of first ∙ count_same cs in
     record {
       labels = done;

@@ -16,7 +16,7 @@ loop-i-preserved g c =
     let ys = c.loop-i.labels in
     let i = c.loop-i.i - 1 in
     let step : suc i ≡ c.loop-i.i = omega arith in
-    first_more code g.T.Coded.recode c.args.labels.now ys i c.first_place-p.result c.index-labels-i.result c.with_code.result (omega arith) (omega arith) (rw step c.loop-i.invariant) c.index-labels-i.is (c.first_place-p.ensures ∙ ap (place_of (map code ys)) c.code.ensures) c.with_code.ensures
+    first_more code g.T.Coded.recode c.args.labels.now ys i c.first_place-first.result c.index-labels-i.result c.with_code.result (omega arith) (omega arith) (rw step c.loop-i.invariant) c.index-labels-i.is (c.first_place-first.ensures ∙ ap (place_of (map code ys)) c.code.ensures) c.with_code.ensures
 
 pub returns : goal.returns
 returns g c = let z : c.loop-i.i ≡ 0 = omega arith in c.loop-i.invariant ∙ rw z

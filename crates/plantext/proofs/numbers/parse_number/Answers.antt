@@ -1,9 +1,11 @@
 use Rattle.std.proofs.Common.{◌∙◌}
-use Rattle.plantext.proofs.Naturals.{minus_none, minus_some}
+use Rattle.plantext.proofs.Numerals.{some_number, no_number}
 use Rattle.plantext.proofs.numbers.parse_number.Goals as goal
 
-pub returns-in_err-size : goal.returns-in_err-size
-returns-in_err-size c = c.from_residual.ensures ∙ minus_none _ c.if-is_empty.ensures c.if-text-eq45.true c.in_err-size.ensures
+pub returns-in_err-ok : goal.returns-in_err-ok
+returns-in_err-ok c =
+    c.from_residual.ensures ∙ no_number _ _ _ _ c.from_utf8.ensures.cases c.in_err-ok.ensures.value
 
-pub returns-then-text-eq45 : goal.returns-then-text-eq45
-returns-then-text-eq45 c = minus_some _ c.if-is_empty.ensures c.if-text-eq45.true _ c.in_ok-size.ensures
+pub returns : goal.returns
+returns c =
+    c.ok-2.ensures.value ∙ some_number _ _ _ _ _ c.if-starts_with.ensures.value c.from_utf8.ensures.cases c.in_ok-ok.ensures.value c.parse.ensures.value.0
