@@ -6,7 +6,7 @@ use crate::point::Point;
 use crate::segment::Segment;
 
 /// A segment seen from its end `dominating`; `far` is the other end.
-#[derive(Clone, Copy, PartialEq, Eq, Debug)]
+#[derive(Clone, Copy, Debug, Default, PartialEq, Eq)]
 pub struct Halfsegment {
     pub dominating: Point,
     pub far: Point,

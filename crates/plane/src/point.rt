@@ -9,7 +9,7 @@ ghost use Rattle.std.specs.Int.{int_wrap, w64};
 const LIMIT: i32 = 10_000_000;
 
 /// Points are ordered by x, then by y.
-#[derive(Clone, Copy, PartialEq, Eq, PartialOrd, Ord, Debug)]
+#[derive(Clone, Copy, Debug, Default, PartialEq, Eq, PartialOrd, Ord)]
 pub struct Point {
     pub x: i32,
     pub y: i32,

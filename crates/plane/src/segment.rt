@@ -6,7 +6,7 @@ ghost use Rattle.plane.specs.Rows.{joining};
 use crate::point::Point;
 
 /// A straight line between two different points; `low` precedes `high`.
-#[derive(Clone, Copy, PartialEq, Eq, Debug)]
+#[derive(Clone, Copy, Debug, PartialEq, Eq)]
 pub struct Segment {
     pub low: Point,
     pub high: Point,

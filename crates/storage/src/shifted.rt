@@ -8,7 +8,7 @@ use crate::interface::{InsertRefusal, NoSuchPlace, Source, Store};
 use plane::{Halfsegment, Point};
 
 /// How far rows are moved.
-#[derive(Clone, Copy, PartialEq, Eq, Debug)]
+#[derive(Clone, Copy, Debug, PartialEq, Eq)]
 struct Offset {
     dx: i32,
     dy: i32,
