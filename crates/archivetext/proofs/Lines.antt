@@ -2,13 +2,12 @@
 use Rattle.std.proofs.Common.{◌≡◌, ℕ, ◌<◌, true, ◌&&◌, leb, List, [], ◌∷◌, ◌++◌, length, ℤ, Some, None, codes, refl, ap, ◌∙◌, arith, w32, SFits, rules}
 use Rattle.std.specs.Fmt.{signed_decimal}
 use Rattle.std.specs.List.{AllByRecursion}
-use Rattle.std.proofs.ByRecursion.{All-append, All-get_or, All-weaker}
+use Rattle.std.proofs.ByRecursion.{All-append, All-weaker}
 use Rattle.std.proofs.lemmas.List.{append_assoc}
 use Rattle.std.proofs.lemmas.Bool.{and_parts, eq-eqb, ne_eqb, leb-true}
 use Rattle.plane.specs.declared.halfsegment.Halfsegment.{Halfsegment}
 use Rattle.storage.proofs.RowLists.{Fits32}
 use Rattle.plantext.specs.Text.{pieces, row_by, row_of_fields, row_of_line}
-use Rattle.plantext.proofs.Fields.{pieces_whole}
 use Rattle.encoding.specs.Format.{printable, valid_title}
 use Rattle.archivetext.specs.Text.{line, row_words}
 use Rattle.archivetext.specs.Pack.{title_of_line}
@@ -26,7 +25,8 @@ pieces_before s [] rest free = rw (eq-eqb s s refl) refl
 pieces_before s (b ∷ l) rest free = rw (ne_eqb b s free.0, pieces_before s l rest free.1) refl
 
 pieces_alone : (s : ℕ) (l : List ℕ) → Free s l → pieces s l ≡ l ∷ []
-pieces_alone s l free = pieces_whole s l (λ k h. All-get_or (λ b. b ≡ s → ⊥) l k 0 h free)
+pieces_alone s [] free = refl
+pieces_alone s (b ∷ l) free = rw (ne_eqb b s free.0, pieces_alone s l free.1) refl
 
 pub pieces_line : (l rest : List ℕ) → Free 10 l → pieces 10 (line l ++ rest) ≡ l ∷ pieces 10 rest
 pieces_line l rest free = ap (pieces 10) (append_assoc l (10 ∷ []) rest) ∙ pieces_before 10 l rest free

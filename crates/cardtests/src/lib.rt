@@ -5,8 +5,9 @@
 mod tests {
     use plane::{Halfsegment, Point};
     use region::CheckRefusal;
-    use std::test::Fail;
-    use storage::{ByteStore, NoSuchPlace, RecordStore, ShiftedStore, Source, Store, same};
+    use storage::{
+        ByteStore, InsertRefusal, NoSuchPlace, RecordStore, ShiftedStore, Source, Store, same,
+    };
 
     const BLANK: Halfsegment = Halfsegment {
         dominating: Point { x: 0, y: 0 },
@@ -20,39 +21,39 @@ mod tests {
         }
     }
 
-    // The number of the refusal, or 0.
-    fn number_of(answer: Result<(), CheckRefusal>) -> u8 {
-        match answer {
-            Ok(()) => 0,
-            Err(refusal) => refusal.number(),
-        }
+    /// What check says, by the refusal's number.
+    fn checked(store: &RecordStore) -> Result<(), u8> {
+        region::check(store).map_err(CheckRefusal::number)
     }
 
     #[test]
     fn an_empty_store_has_no_place(rt: HostRuntime) {
         let mut memory = [BLANK; 2];
         let mut store = RecordStore::new(&mut memory);
-        assert!(rt; store.count() == 0);
+        assert_eq!(rt; store.count(), 0);
         assert!(rt; store.row(0).is_err());
         assert!(rt; store.remove(0).is_err());
-        assert!(rt; NoSuchPlace.number() == 16);
+        assert_eq!(rt; NoSuchPlace.number(), 16);
     }
 
     #[test]
-    fn the_place_is_refused_before_the_room(rt: HostRuntime) -> Result<(), Fail> {
+    fn the_place_is_refused_before_the_room(rt: HostRuntime) {
         let mut memory = [BLANK; 1];
         let mut store = RecordStore::new(&mut memory);
         assert!(rt; store.insert(0, row(0, 0, 4, 0)).is_ok());
-        match store.insert(2, row(4, 0, 0, 0)) {
-            Ok(()) => return Err(Fail::new("inserted past the count")),
-            Err(refusal) => assert!(rt; refusal.number() == 16),
-        }
-        match store.insert(1, row(4, 0, 0, 0)) {
-            Ok(()) => return Err(Fail::new("inserted past the room")),
-            Err(refusal) => assert!(rt; refusal.number() == 5),
-        }
-        assert!(rt; store.count() == 1);
-        Ok(())
+        assert_eq!(rt;
+            store
+                .insert(2, row(4, 0, 0, 0))
+                .map_err(InsertRefusal::number),
+            Err(16)
+        );
+        assert_eq!(rt;
+            store
+                .insert(1, row(4, 0, 0, 0))
+                .map_err(InsertRefusal::number),
+            Err(5)
+        );
+        assert_eq!(rt; store.count(), 1);
     }
 
     #[test]
@@ -60,15 +61,15 @@ mod tests {
         let mut memory = [0xEEu8; 33];
         {
             let mut store = ByteStore::new(&mut memory);
-            assert!(rt; store.room() == 2);
+            assert_eq!(rt; store.room(), 2);
             assert!(rt; store.insert(0, row(1, -2, 258, 10_000_000)).is_ok());
         }
         assert!(rt; memory[0..4] == [0, 0, 0, 1]);
         assert!(rt; memory[4..8] == [255, 255, 255, 254]);
         assert!(rt; memory[8..12] == [0, 0, 1, 2]);
         assert!(rt; memory[12..16] == [0, 152, 150, 128]);
-        assert!(rt; memory[16] == 0xEE);
-        assert!(rt; memory[32] == 0xEE);
+        assert_eq!(rt; memory[16], 0xEE);
+        assert_eq!(rt; memory[32], 0xEE);
     }
 
     #[test]
@@ -93,28 +94,26 @@ mod tests {
     }
 
     #[test]
-    fn rows_by_themselves(rt: HostRuntime) -> Result<(), Fail> {
+    fn rows_by_themselves(rt: HostRuntime) {
         let mut memory = [BLANK; 2];
         let mut store = RecordStore::new(&mut memory);
-        assert!(rt; number_of(region::check(&store)) == 0);
+        assert_eq!(rt; checked(&store), Ok(()));
         assert!(rt; store.insert(0, row(0, 0, 10_000_001, 0)).is_ok());
-        assert!(rt; number_of(region::check(&store)) == 1);
+        assert_eq!(rt; checked(&store), Err(1));
         assert!(rt; store.remove(0).is_ok());
         assert!(rt; store.insert(0, row(3, 3, 3, 3)).is_ok());
-        assert!(rt; number_of(region::check(&store)) == 2);
+        assert_eq!(rt; checked(&store), Err(2));
         assert!(rt; store.remove(0).is_ok());
         assert!(rt; store.insert(0, row(0, 0, 4, 0)).is_ok());
-        assert!(rt; number_of(region::check(&store)) == 8);
+        assert_eq!(rt; checked(&store), Err(8));
         assert!(rt; store.insert(1, row(0, 0, 4, 0)).is_ok());
-        assert!(rt; number_of(region::check(&store)) == 7);
+        assert_eq!(rt; checked(&store), Err(7));
         assert!(rt; store.remove(1).is_ok());
         assert!(rt; store.insert(1, row(4, 0, 0, 0)).is_ok());
-        match region::check(&store) {
-            Err(CheckRefusal::Unclosed(corner)) => {
-                assert!(rt; corner.x == 0 && corner.y == 0);
-                Ok(())
-            },
-            _ => Err(Fail::new("one line is not closed")),
-        }
+        assert_eq!(rt;
+            region::check(&store),
+            Err(CheckRefusal::Unclosed(Point { x: 0, y: 0 })),
+            "one line is not closed"
+        );
     }
 }

@@ -18,9 +18,9 @@ const BLANK: Halfsegment = Halfsegment {
 /// Reads the rows of one plan and tells what check says of them, under the plan's name.
 fn tell(rt: &impl Print, name: &str, rows: &str, memory: &mut [Halfsegment]) -> anyhow::Result<()> {
     let mut store = RecordStore::new(memory);
-    if read_rows(rows.as_bytes(), &mut store).is_err() {
-        return Err(anyhow!("a case has a line that is not a row"));
-    }
+    read_rows(rows.as_bytes(), &mut store).map_err(|_| anyhow!(
+        "a case has a line that is not a row"
+    ))?;
     let count = store.count();
     let answer = check(&store);
     println!(rt; "{name}: {}", VerdictLine { count, answer })?;

@@ -6,7 +6,7 @@ use plane::{Halfsegment, Point};
 use plantext::{LineFault, VerdictLine, read_rows};
 use region::check;
 use std::io::Read;
-use storage::{RecordStore, Source};
+use storage::{MOST_ROWS, RecordStore, Source};
 
 const ORIGIN: Point = Point { x: 0, y: 0 };
 
@@ -15,23 +15,25 @@ const BLANK: Halfsegment = Halfsegment {
     far: ORIGIN,
 };
 
+/// Tells which line is at fault, and why. The fault has no `Display`, since it does not know the room of the store.
 fn explain(rt: &impl Eprint, fault: LineFault) -> anyhow::Result<()> {
     match fault {
         LineFault::NotARow(line) => eprintln!(rt;
             "line {line}: not four whole numbers of 32 bits with single spaces between them"
         )?,
-        LineFault::NoRoom(line) => eprintln!(rt; "line {line}: more than 4000 rows")?,
+        LineFault::NoRoom(line) => eprintln!(rt; "line {line}: more than {MOST_ROWS} rows")?,
     }
-    Err(anyhow!("the input is not a plan"))
+    Ok(())
 }
 
 fn main(rt: HostRuntime) -> anyhow::Result<()> {
     let mut text = Vec::new(rt.alloc());
     rt.stdin().read_to_end(&mut text)?;
-    let mut memory = vec![in rt.alloc(); BLANK; 4000]?;
+    let mut memory = vec![in rt.alloc(); BLANK; MOST_ROWS]?;
     let mut store = RecordStore::new(&mut memory);
     if let Err(fault) = read_rows(&text, &mut store) {
-        return explain(&rt, fault);
+        explain(&rt, fault)?;
+        return Err(anyhow!("the input is not a plan"));
     }
     let count = store.count();
     let answer = check(&store);

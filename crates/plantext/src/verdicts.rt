@@ -7,7 +7,7 @@ use region::CheckRefusal;
 use std::fmt;
 
 /// `closed N` with the number of rows, or `refused N` with the refusal's number and the row or the corner that it names.
-#[derive(Drop)]
+#[derive(Debug, Drop)]
 pub struct VerdictLine {
     pub count: usize,
     pub answer: Result<(), CheckRefusal>,
