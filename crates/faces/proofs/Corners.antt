@@ -13,8 +13,7 @@ use Rattle.plane.specs.Meeting.{inside}
 use Rattle.plane.specs.PointLaws.{Before, eq_int_is, eq_int_holds, points_equal, same_point_is, same_point_holds}
 use Rattle.plane.proofs.Sharing.{upright}
 use Rattle.plane.proofs.Standing.{inside_tells}
-use Rattle.plane.proofs.Meetings.{signs_tell}
-use Rattle.plane.proofs.Steps.{improper_inside}
+use Rattle.plane.proofs.Meetings.{signs_tell, improper_inside}
 use Rattle.reading.specs.Reading.{Planar}
 use Rattle.reading.specs.Counting.{ends, ClosedLines}
 use Rattle.reading.proofs.Lists.{lower_first, odd_one, ends_in}
@@ -48,7 +47,7 @@ corner_of (l ∷ ls) v i = first (corner_of ls v) (out v l.low (l.high ∷ ends 
 no_corner_inside : (ls : List Segment) → Planar ls → (m : Segment) → m ∈ ls → m.low.x ≡ m.high.x → (v : Point) → v ∈ ends ls → m.low.x ≡ v.x → m.low.y <ℤ v.y → v.y <ℤ m.high.y → ⊥
 no_corner_inside ls o m i u v j e lo hi =
     let c = corner_of ls v j in
-    o.proper m c.line i c.member ((signs_tell m c.line (o.ordered m i) (o.ordered c.line c.member)).0 (sym (improper_inside m c.line (at_end c.line c.end))))
+    o.proper m c.line i c.member ((signs_tell m c.line (o.ordered m i) (o.ordered c.line c.member)).0 (improper_inside m c.line (at_end c.line c.end)))
   where
     at_v : inside m v ≡ true
     at_v = (inside_tells m v).1 (record { after_low = inr (e, lo); before_high = inr (sym e ∙ u, hi); level = upright m.low m.high v e (sym u ∙ e) })

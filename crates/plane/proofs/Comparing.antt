@@ -11,11 +11,12 @@ use Rattle.algebra.proofs.Members.{Case, case, holds, fails, apart}
 use Rattle.plane.specs.declared.point.Point.{Point}
 use Rattle.plane.specs.declared.halfsegment.Halfsegment.{Halfsegment}
 use Rattle.plane.specs.contracts.point.PointOrd.TheImpl as point_order
-use Rattle.plane.specs.Points.{eq_int, same_point, precedes, orientation}
+use Rattle.plane.specs.Points.{eq_int, same_point, orientation}
 use Rattle.plane.specs.Rows.{same_row, fit, left, reach, swept_first, by_side, comes_before, compared}
 use Rattle.plane.specs.PointLaws.{same_point_is, eq_int_is}
 use Rattle.plane.specs.RowChains.{no_turn}
 use Rattle.plane.proofs.RowOrder.{one_row, row_order}
+use Rattle.plane.proofs.Steps.{point_first}
 use Rattle.plane.specs.RowLaws.{same_row_is, same_row_holds, long, by_tests}
 
 -- by point, by side, by turn, by length
@@ -58,9 +59,6 @@ equal_is a b = grind (arith, ints)
 
 zero_is : (a : ℤ) → is_eq (int_cmp (pos 0) a) ≡ eq_int a (pos 0)
 zero_is a = grind (arith, ints)
-
-point_first : (p q : Point) → is_lt (point_order.ghosts.cmp p q) ≡ precedes p q
-point_first p q = grind (arith, ints)
 
 point_same : (p q : Point) → is_eq (point_order.ghosts.cmp p q) ≡ same_point p q
 point_same p q = grind (arith, ints)

@@ -5,7 +5,7 @@ use Rattle.plane.specs.declared.point.Point.{Point}
 use Rattle.plane.specs.declared.segment.Segment.{Segment}
 use Rattle.plane.specs.Points.{orientation, scaled}
 use Rattle.plane.specs.Spots.{whole, SamePlace, OnSegment, EndOf, Crosses, MeetImproperly}
-use Rattle.plane.specs.Meeting.{crossing, inside, SignsTell}
+use Rattle.plane.specs.Meeting.{crossing, improper, inside, SignsTell}
 use Rattle.plane.specs.PointLaws.{Before, before_of, before_trans, before_apart, points_equal, Lex, first, last, one, lex}
 use Rattle.plane.proofs.Pairs.{Hits, Shared, IsEnd}
 use Rattle.plane.proofs.Weights.{Passing, falling, rising, flat, end_level}
@@ -165,3 +165,10 @@ pub signs_tell : SignsTell
 signs_tell l m hl hm =
     let t = some_tells (crossing l m) (inside l m.low) (inside l m.high) (inside m l.low) (inside m l.high) in
     (λ e. meet l m (t.0 e), λ c. t.1 (ways l m (before_of l.low l.high hl) (before_of m.low m.high hm) c))
+
+-- with an end of one inside the other
+pub improper_inside : (l m : Segment) → (inside l m.low || inside l m.high) ≡ true → improper l m ≡ true
+improper_inside l m e = go (crossing l m) (inside l m.low) (inside l m.high) (inside m l.low || inside m l.high) e
+  where
+    go : (c i j t : Bool) → (i || j) ≡ true → (c || (i || (j || t))) ≡ true
+    go c i j t e = grind arith

@@ -1,12 +1,13 @@
 -- Steps of the tests in the code: numbers that went to bits and back, and tests that failed or held so far.
 use Rattle.std.proofs.Common.{◌≡◌, Bool, true, false, ◌&&◌, ◌||◌, eqb, ℤ, pos, sym, ap, ◌∙◌, arith, w64, SFits, to_z, of_z}
-use Rattle.std.specs.Ordering.{partial_lt}
+use Rattle.std.specs.Ordering.{is_lt, partial_lt}
 use Rattle.std.proofs.lemmas.Int.{ints, to_z-of_z}
 use Rattle.std.proofs.Math.Bool.{or_assoc}
 use Rattle.std.proofs.lemmas.Bool.{and_parts}
 use Rattle.plane.specs.declared.point.Point.{Point}
 use Rattle.plane.specs.declared.segment.Segment.{Segment}
-use Rattle.plane.specs.contracts.point.PointPartialOrd.TheImpl as order
+use Rattle.plane.specs.contracts.point.PointPartialOrd.TheImpl as partial_order
+use Rattle.plane.specs.contracts.point.PointOrd.TheImpl as order
 use Rattle.plane.specs.Points.{eq_int, in_range, precedes}
 use Rattle.plane.specs.Meeting.{drawable, ordered}
 
@@ -28,9 +29,12 @@ back t o f e = to_z-of_z w64 t f ∙ e
 pub zero_bits : (t : ℤ) → SFits w64 t → eqb (of_z w64 t) 0 ≡ eq_int t (pos 0)
 zero_bits t f = grind (arith, ints)
 
--- `<` on points, which is derived
-pub point_before : (p q : Point) → partial_lt order.ghosts.partial_cmp p q ≡ precedes p q
+-- `<` and `cmp` on points, which are derived
+pub point_before : (p q : Point) → partial_lt partial_order.ghosts.partial_cmp p q ≡ precedes p q
 point_before p q = grind (arith, ints)
+
+pub point_first : (p q : Point) → is_lt (order.ghosts.cmp p q) ≡ precedes p q
+point_first p q = grind (arith, ints)
 
 -- the parts of a test, each of which is told: both, or either, and the second is only asked where the first leaves it open
 pub and_then : {x y a b : Bool} → x ≡ a → y ≡ b → x ≡ true → y ≡ (a && b)

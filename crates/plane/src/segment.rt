@@ -17,10 +17,9 @@ impl Segment {
     pub fn joining(p: Point, q: Point) -> Segment
         ensures { result ≡ joining p q }
     {
-        if q < p {
-            Segment { low: q, high: p }
-        } else {
-            Segment { low: p, high: q }
+        Segment {
+            low: p.min(q),
+            high: p.max(q),
         }
     }
 
