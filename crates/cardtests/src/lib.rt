@@ -9,11 +9,6 @@ mod tests {
         ByteStore, InsertRefusal, NoSuchPlace, RecordStore, ShiftedStore, Source, Store, same,
     };
 
-    const BLANK: Halfsegment = Halfsegment {
-        dominating: Point { x: 0, y: 0 },
-        far: Point { x: 0, y: 0 },
-    };
-
     fn row(x: i32, y: i32, far_x: i32, far_y: i32) -> Halfsegment {
         Halfsegment {
             dominating: Point { x, y },
@@ -28,7 +23,7 @@ mod tests {
 
     #[test]
     fn an_empty_store_has_no_place(rt: HostRuntime) {
-        let mut memory = [BLANK; 2];
+        let mut memory = [Halfsegment::default(); 2];
         let mut store = RecordStore::new(&mut memory);
         assert_eq!(rt; store.count(), 0);
         assert!(rt; store.row(0).is_err());
@@ -38,7 +33,7 @@ mod tests {
 
     #[test]
     fn the_place_is_refused_before_the_room(rt: HostRuntime) {
-        let mut memory = [BLANK; 1];
+        let mut memory = [Halfsegment::default(); 1];
         let mut store = RecordStore::new(&mut memory);
         assert!(rt; store.insert(0, row(0, 0, 4, 0)).is_ok());
         assert_eq!(rt;
@@ -75,7 +70,7 @@ mod tests {
     #[test]
     fn a_shifted_store_wraps(rt: HostRuntime) {
         let mut below = [0u8; 32];
-        let mut beside = [BLANK; 2];
+        let mut beside = [Halfsegment::default(); 2];
         let mut shifted = ShiftedStore::new(ByteStore::new(&mut below), 10, -1);
         let mut plain = RecordStore::new(&mut beside);
         assert!(rt;
@@ -95,7 +90,7 @@ mod tests {
 
     #[test]
     fn rows_by_themselves(rt: HostRuntime) {
-        let mut memory = [BLANK; 2];
+        let mut memory = [Halfsegment::default(); 2];
         let mut store = RecordStore::new(&mut memory);
         assert_eq!(rt; checked(&store), Ok(()));
         assert!(rt; store.insert(0, row(0, 0, 10_000_001, 0)).is_ok());

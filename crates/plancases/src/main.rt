@@ -2,18 +2,11 @@
 #![tactic(auto)]
 
 use anyhow::anyhow;
-use plane::{Halfsegment, Point};
+use plane::Halfsegment;
 use plantext::{VerdictLine, read_rows};
 use region::check;
 use std::io::Read;
 use storage::{RecordStore, Source};
-
-const ORIGIN: Point = Point { x: 0, y: 0 };
-
-const BLANK: Halfsegment = Halfsegment {
-    dominating: ORIGIN,
-    far: ORIGIN,
-};
 
 /// Reads the rows of one plan and tells what check says of them, under the plan's name.
 fn tell(rt: &impl Print, name: &str, rows: &str, memory: &mut [Halfsegment]) -> anyhow::Result<()> {
@@ -30,7 +23,7 @@ fn tell(rt: &impl Print, name: &str, rows: &str, memory: &mut [Halfsegment]) -> 
 fn main(rt: HostRuntime) -> anyhow::Result<()> {
     let mut text = String::new(rt.alloc());
     rt.stdin().read_to_string(&mut text)?;
-    let mut memory = vec![in rt.alloc(); BLANK; 100]?;
+    let mut memory = vec![in rt.alloc(); Halfsegment::default(); 100]?;
     for plan in text.split('#') {
         if let Some((name, rows)) = plan.split_once('\n') {
             tell(&rt, name, rows, &mut memory)?;

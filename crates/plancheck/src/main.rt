@@ -2,18 +2,11 @@
 #![tactic(auto)]
 
 use anyhow::anyhow;
-use plane::{Halfsegment, Point};
+use plane::Halfsegment;
 use plantext::{LineFault, VerdictLine, read_rows};
 use region::check;
 use std::io::Read;
 use storage::{MOST_ROWS, RecordStore, Source};
-
-const ORIGIN: Point = Point { x: 0, y: 0 };
-
-const BLANK: Halfsegment = Halfsegment {
-    dominating: ORIGIN,
-    far: ORIGIN,
-};
 
 /// Tells which line is at fault, and why. The fault has no `Display`, since it does not know the room of the store.
 fn explain(rt: &impl Eprint, fault: LineFault) -> anyhow::Result<()> {
@@ -29,7 +22,7 @@ fn explain(rt: &impl Eprint, fault: LineFault) -> anyhow::Result<()> {
 fn main(rt: HostRuntime) -> anyhow::Result<()> {
     let mut text = Vec::new(rt.alloc());
     rt.stdin().read_to_end(&mut text)?;
-    let mut memory = vec![in rt.alloc(); BLANK; MOST_ROWS]?;
+    let mut memory = vec![in rt.alloc(); Halfsegment::default(); MOST_ROWS]?;
     let mut store = RecordStore::new(&mut memory);
     if let Err(fault) = read_rows(&text, &mut store) {
         explain(&rt, fault)?;
