@@ -5,17 +5,13 @@ ghost use Rattle.algebra.specs.Parity.{EvenCounts, OddCounts};
 ghost use Rattle.algebra.specs.Polynomial.{EquationsCarry, NormalFormDecides};
 
 /// Polynomials with one normal form are equal, and so are those that differ by multiples of known equations.
-pub fn normal_forms_decide() -> u8
+pub fn normal_forms_decide()
     ensures identity { NormalFormDecides }
     ensures consequence { EquationsCarry }
-{
-    0
-}
+{}
 
 /// Where each thing of a list stands an even number of times, every test holds an even number of times.
-pub fn even_counts_add<T>() -> u8
+pub fn even_counts_add<T>()
     ensures parity { OddCounts T }
     ensures sums { EvenCounts T }
-{
-    0
-}
+{}

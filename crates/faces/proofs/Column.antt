@@ -12,7 +12,7 @@ use Rattle.algebra.proofs.Counts.{kept_in}
 use Rattle.plane.specs.declared.point.Point.{Point}
 use Rattle.plane.specs.declared.segment.Segment.{Segment}
 use Rattle.plane.specs.Spots.{Spot, whole, above_of}
-use Rattle.plane.proofs.Points.{Before, ys_of}
+use Rattle.plane.specs.PointLaws.{Before, ys_of}
 use Rattle.reading.specs.Reading.{Planar, Off}
 use Rattle.reading.specs.Counting.{ends}
 use Rattle.reading.proofs.Lists.{lower_first, ends_in}

@@ -10,7 +10,7 @@ use Rattle.plane.specs.declared.segment.Segment.{Segment}
 use Rattle.plane.specs.Points.{same_point}
 use Rattle.plane.specs.Spots.{Spot, whole}
 use Rattle.plane.specs.Meeting.{inside}
-use Rattle.plane.proofs.Points.{Before, eq_int_is, eq_int_holds, points_equal, same_point_is, same_point_holds}
+use Rattle.plane.specs.PointLaws.{Before, eq_int_is, eq_int_holds, points_equal, same_point_is, same_point_holds}
 use Rattle.plane.proofs.Sharing.{upright}
 use Rattle.plane.proofs.Standing.{inside_tells}
 use Rattle.plane.proofs.Meetings.{signs_tell}

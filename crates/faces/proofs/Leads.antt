@@ -5,7 +5,7 @@ use Rattle.std.proofs.lemmas.Bool.Decides.{Decides-like}
 use Rattle.algebra.proofs.Ring.{mul_comm, mul_zero, mul_one}
 use Rattle.algebra.proofs.Signs.{lin, split, Tri, below, zeroed, above, tri, mul_pos, mul_neg, cancel_pos, cancel_neg, cancel_zero}
 use Rattle.plane.specs.Points.{eq_int}
-use Rattle.plane.proofs.Points.{precedes_decides}
+use Rattle.plane.specs.PointLaws.{precedes_decides}
 
 -- g is above 0, or at 0 and t above 0
 abbrev pub Leads : ℤ → ℤ → Type 0

@@ -11,7 +11,7 @@ use Rattle.plane.specs.declared.point.Point.{Point}
 use Rattle.plane.specs.declared.segment.Segment.{Segment}
 use Rattle.plane.specs.Points.{eq_int}
 use Rattle.plane.specs.Spots.{Spot}
-use Rattle.plane.proofs.Points.{Before}
+use Rattle.plane.specs.PointLaws.{Before}
 use Rattle.plane.proofs.Any.{scale_le}
 use Rattle.reading.specs.Reading.{Planar, Off}
 use Rattle.reading.specs.Counting.{ends, ClosedLines, passes_under}

@@ -12,7 +12,7 @@ use Rattle.plane.specs.declared.segment.Segment.{Segment}
 use Rattle.plane.specs.Points.{orientation, scaled}
 use Rattle.plane.specs.Spots.{Spot, whole, LeftOf, right_of, OnSegment, EndOf, Touches}
 use Rattle.plane.specs.Meeting.{crossing, inside}
-use Rattle.plane.proofs.Points.{xs_of, ys_of}
+use Rattle.plane.specs.PointLaws.{xs_of, ys_of}
 use Rattle.plane.proofs.Pairs.{Hits, Shared, turn_e, turn_x, x_e, y_e}
 use Rattle.plane.proofs.Sharing.{mean, hits_mean, along_by, upright}
 use Rattle.plane.proofs.Tests.{through_in'}

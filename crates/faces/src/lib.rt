@@ -5,43 +5,31 @@ ghost use Rattle.faces.specs.Example.{ApartStaysApart};
 ghost use Rattle.faces.specs.Theorems.{BelowTells, BetweenColumns, ColumnJoins, LeftNeverMissing, WalkKeeps};
 
 /// A spot on no line is covered exactly where an odd number of segments is below it on its right.
-pub fn below_tells() -> u8
+pub fn below_tells()
     ensures { BelowTells }
-{
-    0
-}
+{}
 
 /// Straight below a covered spot the segments just below on the left and on the right are of one component.
-pub fn column_joins() -> u8
+pub fn column_joins()
     ensures { ColumnJoins }
-{
-    0
-}
+{}
 
 /// On closed lines the segment just below on the left is never missing where the rules look for it.
-pub fn left_never_missing() -> u8
+pub fn left_never_missing()
     ensures { LeftNeverMissing }
-{
-    0
-}
+{}
 
 /// Between columns without corners nothing changes.
-pub fn between_columns() -> u8
+pub fn between_columns()
     ensures { BetweenColumns }
-{
-    0
-}
+{}
 
 /// A walk that touches no line keeps the component of the segment just below.
-pub fn walk_keeps() -> u8
+pub fn walk_keeps()
     ensures { WalkKeeps }
-{
-    0
-}
+{}
 
 /// Two triangles side by side are of two components, and no walk leads from one to the other.
-pub fn apart_stays_apart() -> u8
+pub fn apart_stays_apart()
     ensures { ApartStaysApart }
-{
-    0
-}
+{}

@@ -9,7 +9,7 @@ use Rattle.algebra.proofs.Signs.{lin, split, mul_pos, mul_le, mul_lt}
 use Rattle.plane.specs.declared.point.Point.{Point}
 use Rattle.plane.specs.Points.{orientation, scaled}
 use Rattle.plane.specs.Meeting.{opposite}
-use Rattle.plane.proofs.Points.{Before, points_equal, xs_of, ys_of, Lex, first, last, one, lex}
+use Rattle.plane.specs.PointLaws.{Before, points_equal, xs_of, ys_of, Lex, first, last, one, lex}
 use Rattle.plane.proofs.Pairs.{Between, Hits, Shared, IsEnd, Clean, straddles, clear_of, ranges_meet, touches, crosses, turn_e, turn_x, x_e, y_e}
 use Rattle.plane.proofs.Sharing.{leg_back, segment_back, hits_start, hits_whole, upright}
 use Rattle.plane.proofs.Tests.{ranges_sorted, touch_test, touch_from, cross_test, cross_to}

@@ -9,7 +9,7 @@ use Rattle.plane.specs.Points.{scaled}
 use Rattle.plane.specs.declared.segment.Segment.{Segment}
 use Rattle.plane.specs.Meeting.{crossing}
 use Rattle.plane.specs.Spots.{Spot, whole, right_of, above_of, SamePlace, Around, On, OnSegment, Touches, Crosses}
-use Rattle.plane.proofs.Points.{points_equal, xs_of, ys_of}
+use Rattle.plane.specs.PointLaws.{points_equal, xs_of, ys_of}
 use Rattle.plane.proofs.Pairs.{Between, Hits, Shared, IsEnd, Clean, touches, crosses}
 use Rattle.plane.proofs.Sharing.{hits_start, hits_back}
 use Rattle.plane.proofs.Any.{any_touch_test, any_cross_test, crosses_scaled}

@@ -5,7 +5,7 @@ use Rattle.algebra.proofs.Ring.{ring_from}
 use Rattle.algebra.proofs.Signs.{lin, split, cancel, cancel_le, mul_le}
 use Rattle.plane.specs.declared.point.Point.{Point}
 use Rattle.plane.specs.Points.{orientation, scaled}
-use Rattle.plane.proofs.Points.{Before, rightward, points_equal, xs_of, ys_of}
+use Rattle.plane.specs.PointLaws.{Before, rightward, points_equal, xs_of, ys_of}
 use Rattle.plane.proofs.Pairs.{Between, Shared, IsEnd, SharedEnd, Crossed, Clean}
 use Rattle.plane.proofs.Sharing.{fall_leg, fall_segment, upright, end_by_x, end_by_y}
 use Rattle.plane.proofs.Weights.{Weighed, weights, heights, weight_on_u, weight_on_v, edge, opposed, Passing, passing, in_order}

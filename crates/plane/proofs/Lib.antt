@@ -1,12 +1,11 @@
 pub mod Any
 pub mod Bounds
 pub mod Bridge
+pub mod Comparing
 pub mod Crossed
 pub mod Cuts
 pub mod Meetings
 pub mod Pairs
-pub mod Points
-pub mod RowOrder
 pub mod Segments
 pub mod Sharing
 pub mod Standing

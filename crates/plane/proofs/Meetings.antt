@@ -6,7 +6,7 @@ use Rattle.plane.specs.declared.segment.Segment.{Segment}
 use Rattle.plane.specs.Points.{orientation, scaled}
 use Rattle.plane.specs.Spots.{whole, SamePlace, OnSegment, EndOf, Crosses, MeetImproperly}
 use Rattle.plane.specs.Meeting.{crossing, inside, SignsTell}
-use Rattle.plane.proofs.Points.{Before, before_of, before_trans, before_apart, points_equal, Lex, first, last, one, lex}
+use Rattle.plane.specs.PointLaws.{Before, before_of, before_trans, before_apart, points_equal, Lex, first, last, one, lex}
 use Rattle.plane.proofs.Pairs.{Hits, Shared, IsEnd}
 use Rattle.plane.proofs.Weights.{Passing, falling, rising, flat, end_level}
 use Rattle.plane.proofs.Crossed.{signs}

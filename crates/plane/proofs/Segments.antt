@@ -11,7 +11,7 @@ use Rattle.plane.specs.Points.{in_range, same_point, orientation}
 use Rattle.plane.specs.Spots.{Around, MeetImproperly}
 use Rattle.plane.specs.Rows.{left, twin, segment_of, fit, same_row, Long}
 use Rattle.plane.specs.Meeting.{opposite, inside, improper, ordered, drawable}
-use Rattle.plane.proofs.Points.{same_point_is, same_point_holds, before_of, rightward, precedes_back, precedes_comparable}
+use Rattle.plane.specs.PointLaws.{same_point_is, same_point_holds, before_of, rightward, precedes_back, precedes_comparable}
 use Rattle.plane.proofs.Meetings.{signs_tell}
 
 pub same_row_is : (g h : Halfsegment) → same_row g h ≡ true → g ≡ h

@@ -8,7 +8,7 @@ use Rattle.plane.specs.declared.point.Point.{Point}
 use Rattle.plane.specs.declared.segment.Segment.{Segment}
 use Rattle.plane.specs.Points.{eq_int, precedes, orientation, scaled}
 use Rattle.plane.specs.Meeting.{inside}
-use Rattle.plane.proofs.Points.{Before, before_of, of_before, rightward, Lex, first, last, one, lex}
+use Rattle.plane.specs.PointLaws.{Before, before_of, of_before, rightward, Lex, first, last, one, lex}
 use Rattle.plane.proofs.Pairs.{Between, Hits, turn_x}
 use Rattle.plane.proofs.Sharing.{hits_whole, hits_back, along_by}
 

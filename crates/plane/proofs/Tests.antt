@@ -9,7 +9,7 @@ use Rattle.plane.specs.declared.point.Point.{Point}
 use Rattle.plane.specs.Points.{orientation, scaled}
 use Rattle.plane.specs.Spots.{Around}
 use Rattle.plane.specs.Meeting.{opposite}
-use Rattle.plane.proofs.Points.{Before, points_equal}
+use Rattle.plane.specs.PointLaws.{Before, points_equal}
 use Rattle.plane.proofs.Pairs.{Between, Shared, IsEnd, Clean, straddles, ranges_meet, touches, crosses}
 use Rattle.plane.proofs.Cuts.{Cut}
 use Rattle.plane.proofs.Sharing.{fall_leg, fall_segment, shared_cut, shared_rise, end_by_x, end_by_y}

@@ -5,7 +5,7 @@ use Rattle.algebra.proofs.Ring.{ring, ring_from, mul_zero}
 use Rattle.algebra.proofs.Signs.{lin, split, Tri, below, zeroed, above, tri, mul_pos, mul_neg, cancel_pos, cancel_neg, cancel_zero, cancel}
 use Rattle.plane.specs.declared.point.Point.{Point}
 use Rattle.plane.specs.Points.{orientation, scaled}
-use Rattle.plane.proofs.Points.{points_equal, xs_of, ys_of}
+use Rattle.plane.specs.PointLaws.{points_equal, xs_of, ys_of}
 use Rattle.plane.proofs.Pairs.{Between, Hits, turn_e, turn_x, x_e, y_e}
 
 -- s / k is u and v with weights m and n, coordinate by coordinate

@@ -1,5 +1,7 @@
 -- Halfsegments: a segment seen from one of its ends, and the order in which they stand in a plan.
-use Rattle.std.specs.Prelude.{◌≡◌, Bool, true, false, cond, not, ◌&&◌, ◌||◌, ◌⊎◌, ℤ, pos, ◌+ℤ◌, ◌-ℤ◌, ◌*ℤ◌, int_lt}
+use Rattle.std.specs.Prelude.{◌≡◌, Bool, true, false, cond, not, ◌&&◌, ◌||◌, ◌⊎◌, ℤ, pos, ◌+ℤ◌, ◌-ℤ◌, ◌*ℤ◌, int_lt, Option, Some, None}
+use Rattle.std.specs.declared.cmp.Ordering.{Ordering}
+use Rattle.std.specs.declared.cmp.Ordering.TheVariants.{Less, Equal, Greater}
 use Rattle.plane.specs.declared.point.Point.{Point}
 use Rattle.plane.specs.declared.segment.Segment.{Segment}
 use Rattle.plane.specs.declared.halfsegment.Halfsegment.{Halfsegment}
@@ -46,6 +48,10 @@ earlier g h = cond (left g) (left h && swept_first g h) (left h || swept_first g
 -- the order of halfsegments: by dominating point, then as above
 abbrev pub comes_before : Halfsegment → Halfsegment → Bool
 comes_before g h = precedes g.dominating h.dominating || (same_point g.dominating h.dominating && earlier g h)
+
+-- what a comparison answers: of two different halfsegments, which comes first if both are fit, and else nothing
+abbrev pub compared : Halfsegment → Halfsegment → Option Ordering
+compared g h = cond (same_row g h) (Some Equal) (cond (fit g && fit h) (Some (cond (comes_before g h) Less Greater)) None)
 
 -- with a length, or not
 abbrev pub Long : Halfsegment → Type 0

@@ -3,10 +3,12 @@
 
 mod halfsegment;
 mod meeting;
+mod order;
 mod point;
 mod segment;
 
-pub use halfsegment::{Halfsegment, rows_are_ordered};
+pub use halfsegment::Halfsegment;
 pub use meeting::{meet_improperly, signs_tell_meetings};
-pub use point::{Point, orientation};
+pub use order::rows_are_ordered;
+pub use point::{Point, orientation, points_are_ordered};
 pub use segment::Segment;

@@ -1,7 +1,7 @@
 //! How two segments meet.
-ghost use Rattle.std.specs.Prelude.{◌≡◌, true, ◌&&◌, ◌||◌, Decides};
-ghost use Rattle.plane.specs.Meeting.{drawable, improper, inside, opposite, SignsTell};
-ghost use Rattle.plane.specs.Points.{in_range, orientation};
+ghost use Rattle.std.specs.Prelude.{◌≡◌, true, false, ◌&&◌, ◌||◌, pos, Decides, MatchOption};
+ghost use Rattle.plane.specs.Meeting.{crossing, drawable, improper, inside, opposite, SignsTell};
+ghost use Rattle.plane.specs.Points.{eq_int, orientation, precedes};
 ghost use Rattle.plane.specs.Spots.{MeetImproperly};
 
 use crate::point::{Point, orientation};
@@ -13,61 +13,65 @@ fn are_opposite(u: i64, v: i64) -> bool
     (u < 0 && 0 < v) || (0 < u && v < 0)
 }
 
-/// On which side of the segment the point lies: above 0 on its left, going from `low` to `high`.
-fn side(l: Segment, p: Point) -> i64
-    requires { (drawable l ≡ true) × (in_range p ≡ true) }
-    ensures { result ≡ orientation l.low l.high p }
-{
-    orientation(l.low, l.high, p)
+/// A segment whose ends are in range, the lesser first.
+#[derive(Clone, Copy)]
+struct DrawableSegment {
+    segment: Segment,
+    ghost is_drawable: { drawable segment ≡ true },
 }
 
-/// Whether the ends of `m` lie strictly on both sides of the straight line through `l`.
-fn parts(l: Segment, m: Segment) -> bool
-    requires { (drawable l ≡ true) × (drawable m ≡ true) }
-    ensures { result ≡ opposite (orientation l.low l.high m.low) (orientation l.low l.high m.high) }
-{
-    are_opposite(side(l, m.low), side(l, m.high))
-}
+impl DrawableSegment {
+    fn new(segment: Segment) -> Option<DrawableSegment>
+        ensures { MatchOption result (drawable segment ≡ false) (λ l. l.segment ≡ segment) }
+    {
+        if segment.is_drawable() {
+            Some(DrawableSegment { segment })
+        } else {
+            None
+        }
+    }
 
-/// Whether the point lies on the segment and is not an end of it.
-fn is_inside(l: Segment, p: Point) -> bool
-    requires { (drawable l ≡ true) × (in_range p ≡ true) }
-    ensures { result ≡ inside l p }
-{
-    if !l.low.precedes(p) {
-        return false;
+    /// On which sides of the segment the ends of `other` lie: above 0 on its left, going from `low` to `high`.
+    fn sides(self, other: DrawableSegment) -> (i64, i64)
+        ensures low { result.0 ≡ orientation self.segment.low self.segment.high other.segment.low }
+        ensures high { result.1 ≡ orientation self.segment.low self.segment.high other.segment.high }
+    {
+        let Segment { low, high } = self.segment;
+        (
+            orientation(low, high, other.segment.low),
+            orientation(low, high, other.segment.high),
+        )
     }
-    if !p.precedes(l.high) {
-        return false;
-    }
-    side(l, p) == 0
-}
 
-/// Whether an end of `m` lies on `l` and is not an end of it.
-fn has_inside(l: Segment, m: Segment) -> bool
-    requires { (drawable l ≡ true) × (drawable m ≡ true) }
-    ensures { result ≡ (inside l m.low || inside l m.high) }
-{
-    if is_inside(l, m.low) {
-        return true;
+    /// Whether a point on that side of the segment lies on it and is not an end of it.
+    fn is_inside(self, p: Point, side: i64) -> bool
+        ensures { result ≡ (precedes self.segment.low p && (precedes p self.segment.high && eq_int side (pos 0))) }
+    {
+        self.segment.low < p && p < self.segment.high && side == 0
     }
-    is_inside(l, m.high)
-}
 
-fn shows_improper(l: Segment, m: Segment) -> bool
-    requires { (drawable l ≡ true) × (drawable m ≡ true) }
-    ensures { result ≡ improper l m }
-{
-    if has_inside(l, m) {
-        return true;
+    /// Whether an end of `other` lies on the segment and is not an end of it.
+    fn has_inside(self, other: DrawableSegment) -> bool
+        ensures { result ≡ (inside self.segment other.segment.low || inside self.segment other.segment.high) }
+    {
+        let (low, high) = self.sides(other);
+        self.is_inside(other.segment.low, low) || self.is_inside(other.segment.high, high)
     }
-    if has_inside(m, l) {
-        return true;
+
+    /// Whether the ends of each lie strictly on both sides of the straight line through the other.
+    fn crosses(self, other: DrawableSegment) -> bool
+        ensures { result ≡ crossing self.segment other.segment }
+    {
+        let (low, high) = self.sides(other);
+        let (other_low, other_high) = other.sides(self);
+        are_opposite(other_low, other_high) && are_opposite(low, high)
     }
-    if !parts(m, l) {
-        return false;
+
+    fn is_improper_with(self, other: DrawableSegment) -> bool
+        ensures { result ≡ improper self.segment other.segment }
+    {
+        self.crosses(other) || self.has_inside(other) || other.has_inside(self)
     }
-    parts(l, m)
 }
 
 /// Whether two segments that can stand in a plan differ and share a point that is not an end of both.
@@ -75,18 +79,13 @@ pub fn meet_improperly(l: Segment, m: Segment) -> bool
     ensures shared { drawable l ≡ true → drawable m ≡ true → Decides result (MeetImproperly l m) }
     ensures signs { result ≡ (drawable l && (drawable m && improper l m)) }
 {
-    if !l.is_drawable() {
-        return false;
+    match (DrawableSegment::new(l), DrawableSegment::new(m)) {
+        (Some(l), Some(m)) => l.is_improper_with(m),
+        _ => false,
     }
-    if !m.is_drawable() {
-        return false;
-    }
-    shows_improper(l, m)
 }
 
 /// Signs of orientations tell whether two segments meet improperly.
-pub fn signs_tell_meetings() -> u8
+pub fn signs_tell_meetings()
     ensures { SignsTell }
-{
-    0
-}
+{}

@@ -1,12 +1,15 @@
 //! Points with whole coordinates, in centimetres.
 ghost use Rattle.std.specs.Prelude.{◌≡◌, true, ◌-ℤ◌};
 ghost use Rattle.plane.specs.Points.{coordinate, in_range, orientation as oriented, precedes, same_point};
+ghost use Rattle.plane.specs.declared.point.Point.{Point};
+ghost use Rattle.std.specs.Ordering.{partial_lt};
 ghost use Rattle.std.specs.Int.{int_wrap, w64};
 
 /// The largest coordinate of a plan, and with a minus the smallest.
 const LIMIT: i32 = 10_000_000;
 
-#[derive(Clone, Copy, PartialEq, Eq)]
+/// Points are ordered by x, then by y.
+#[derive(Clone, Copy, PartialEq, Eq, PartialOrd, Ord, Debug)]
 pub struct Point {
     pub x: i32,
     pub y: i32,
@@ -15,7 +18,7 @@ pub struct Point {
 fn is_coordinate(z: i32) -> bool
     ensures { result ≡ coordinate z }
 {
-    -LIMIT <= z && z <= LIMIT
+    (-LIMIT..=LIMIT).contains(&z)
 }
 
 impl Point {
@@ -25,26 +28,18 @@ impl Point {
     {
         is_coordinate(self.x) && is_coordinate(self.y)
     }
-
-    /// Whether the two are one point.
-    pub fn coincides(self, other: Point) -> bool
-        ensures { result ≡ same_point self other }
-    {
-        self.x == other.x && self.y == other.y
-    }
-
-    /// Points are ordered by x, then by y.
-    pub fn precedes(self, other: Point) -> bool
-        ensures { result ≡ precedes self other }
-    {
-        self.x < other.x || (self.x == other.x && self.y < other.y)
-    }
 }
+
+/// `==` says that two points are one, and `<` goes by x, then by y.
+pub fn points_are_ordered()
+    ensures equal { (p q : Point) → ⟦<Point as PartialEq>⟧.eq p q ≡ same_point p q }
+    ensures less { (p q : Point) → partial_lt ⟦<Point as PartialOrd>⟧.partial_cmp p q ≡ precedes p q }
+{}
 
 pub(crate) fn difference(to: i32, from: i32) -> i64
     ensures { result ≡ to -ℤ from }
 {
-    to as i64 - from as i64
+    i64::from(to) - i64::from(from)
 }
 
 /// Twice the signed area of the triangle `c`, `a`, `b`: positive where `b` lies anticlockwise of `a`, seen from `c`.

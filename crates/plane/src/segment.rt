@@ -6,7 +6,7 @@ ghost use Rattle.plane.specs.Rows.{joining};
 use crate::point::Point;
 
 /// A straight line between two different points; `low` precedes `high`.
-#[derive(Clone, Copy, PartialEq, Eq)]
+#[derive(Clone, Copy, PartialEq, Eq, Debug)]
 pub struct Segment {
     pub low: Point,
     pub high: Point,
@@ -17,7 +17,7 @@ impl Segment {
     pub fn joining(p: Point, q: Point) -> Segment
         ensures { result ≡ joining p q }
     {
-        if q.precedes(p) {
+        if q < p {
             Segment { low: q, high: p }
         } else {
             Segment { low: p, high: q }
@@ -28,6 +28,6 @@ impl Segment {
     pub fn is_drawable(self) -> bool
         ensures { result ≡ drawable self }
     {
-        self.low.in_range() && self.high.in_range() && self.low.precedes(self.high)
+        self.low.in_range() && self.high.in_range() && self.low < self.high
     }
 }

@@ -9,7 +9,7 @@ use Rattle.plane.specs.declared.point.Point.{Point}
 use Rattle.plane.specs.declared.segment.Segment.{Segment}
 use Rattle.plane.specs.Points.{orientation, scaled}
 use Rattle.plane.specs.Spots.{Spot, whole, LeftOf}
-use Rattle.plane.proofs.Points.{points_equal}
+use Rattle.plane.specs.PointLaws.{points_equal}
 use Rattle.plane.proofs.Pairs.{turn_x}
 use Rattle.plane.proofs.Bridge.{place, crosses_at, Fair, spot}
 use Rattle.reading.specs.Reading.{Planar, Off, Reading}

@@ -7,7 +7,7 @@ use Rattle.algebra.proofs.Parity.{times_none}
 use Rattle.plane.specs.declared.point.Point.{Point}
 use Rattle.plane.specs.declared.segment.Segment.{Segment}
 use Rattle.plane.specs.Points.{same_point}
-use Rattle.plane.proofs.Points.{same_point_is}
+use Rattle.plane.specs.PointLaws.{same_point_is}
 use Rattle.reading.specs.Reading.{HasReading, OneReading}
 use Rattle.reading.specs.Counting.{ends, degree_at, ClosedLines, parity}
 use Rattle.reading.specs.Theorems.{ClosedReads, OneOrNone}

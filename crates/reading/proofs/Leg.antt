@@ -7,7 +7,7 @@ use Rattle.algebra.proofs.Signs.{lin, split}
 use Rattle.algebra.proofs.Members.{Case, holds, fails, case, apart}
 use Rattle.plane.specs.declared.point.Point.{Point}
 use Rattle.plane.specs.Points.{orientation, scaled}
-use Rattle.plane.proofs.Points.{Before, rightward}
+use Rattle.plane.specs.PointLaws.{Before, rightward}
 use Rattle.plane.proofs.Pairs.{Shared, Clean, touches, crosses}
 use Rattle.plane.proofs.Sharing.{quad_of, shared_cut, shared_rise, leg_back}
 use Rattle.plane.proofs.Weights.{Passing, falling, rising, flat, not_zero_above, not_zero_below}

@@ -9,7 +9,7 @@ use Rattle.algebra.proofs.Members.{none, apart, Case, holds, fails, case}
 use Rattle.algebra.proofs.Parity.{odd_none}
 use Rattle.plane.specs.declared.segment.Segment.{Segment}
 use Rattle.plane.specs.Points.{same_point}
-use Rattle.plane.proofs.Points.{Before, before_of, same_point_is, same_point_holds}
+use Rattle.plane.specs.PointLaws.{Before, before_of, same_point_is, same_point_holds}
 use Rattle.reading.specs.Reading.{Planar}
 use Rattle.reading.specs.Counting.{ends}
 

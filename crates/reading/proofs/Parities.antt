@@ -11,7 +11,7 @@ use Rattle.plane.specs.declared.point.Point.{Point}
 use Rattle.plane.specs.declared.segment.Segment.{Segment}
 use Rattle.plane.specs.Points.{same_point, orientation, scaled}
 use Rattle.plane.specs.Spots.{Spot, whole, LeftOf, Touches, Crosses}
-use Rattle.plane.proofs.Points.{Before, before_of, same_point_is, same_point_holds}
+use Rattle.plane.specs.PointLaws.{Before, before_of, same_point_is, same_point_holds}
 use Rattle.plane.proofs.Standing.{before_scaled}
 use Rattle.plane.proofs.Bridge.{place, Stands, touches_at, crosses_at, Fair, scaled_twice, crosses_tell, cross_touch}
 use Rattle.reading.specs.Reading.{Planar, Clear, Reading}

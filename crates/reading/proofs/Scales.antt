@@ -9,7 +9,7 @@ use Rattle.plane.specs.declared.point.Point.{Point}
 use Rattle.plane.specs.declared.segment.Segment.{Segment}
 use Rattle.plane.specs.Points.{scaled}
 use Rattle.plane.specs.Spots.{Spot, Touches, Crosses}
-use Rattle.plane.proofs.Points.{points_equal, xs_of, ys_of}
+use Rattle.plane.specs.PointLaws.{points_equal, xs_of, ys_of}
 use Rattle.plane.proofs.Pairs.{touches, crosses}
 use Rattle.plane.proofs.Bridge.{place, Stands, touches_at, crosses_at, Fair, scaled_twice, touches_tell, crosses_tell, cross_touch}
 use Rattle.reading.specs.Counting.{Met}

@@ -12,7 +12,7 @@ use Rattle.plane.specs.declared.point.Point.{Point}
 use Rattle.plane.specs.declared.segment.Segment.{Segment}
 use Rattle.plane.specs.Points.{same_point, orientation, scaled}
 use Rattle.plane.specs.Spots.{Spot, whole, LeftOf}
-use Rattle.plane.proofs.Points.{points_equal, xs_of, ys_of, same_point_is, same_point_holds}
+use Rattle.plane.specs.PointLaws.{points_equal, xs_of, ys_of, same_point_is, same_point_holds}
 use Rattle.plane.proofs.Pairs.{straddles, clear_of, ranges_meet, touches, turn_x}
 use Rattle.plane.proofs.Bridge.{crosses_at, Fair, spot, touches_tell}
 use Rattle.reading.specs.Reading.{Planar, Reading}

@@ -5,58 +5,42 @@ ghost use Rattle.reading.specs.Example.{Triangle};
 ghost use Rattle.reading.specs.Theorems.{ClosedReads, CrossingsCount, LegTells, OddCornerHasNone, OneOrNone, ParityReads, ParitySums, ReadingsAgree};
 
 /// One leg and one line, that share no point or cross: under which ends of the leg the line passes.
-pub fn leg_tells() -> u8
+pub fn leg_tells()
     ensures { LegTells }
-{
-    0
-}
+{}
 
 /// The same summed over all lines, modulo 2.
-pub fn parity_sums() -> u8
+pub fn parity_sums()
     ensures { ParitySums }
-{
-    0
-}
+{}
 
 /// On closed lines the parity of the lines under a spot is a reading.
-pub fn parity_reads() -> u8
+pub fn parity_reads()
     ensures { ParityReads }
-{
-    0
-}
+{}
 
 /// Two readings of the same lines agree at every spot on no line.
-pub fn readings_agree() -> u8
+pub fn readings_agree()
     ensures { ReadingsAgree }
-{
-    0
-}
+{}
 
 /// Lines with an odd corner have no reading.
-pub fn odd_corner_has_none() -> u8
+pub fn odd_corner_has_none()
     ensures { OddCornerHasNone }
-{
-    0
-}
+{}
 
 /// Lines are closed exactly where they have a reading, and then exactly one.
-pub fn one_or_none() -> u8
+pub fn one_or_none()
     ensures closed { ClosedReads }
     ensures one { OneOrNone }
-{
-    0
-}
+{}
 
 /// The ends of a leg are said alike exactly where it crosses an even number of lines.
-pub fn crossings_count() -> u8
+pub fn crossings_count()
     ensures { CrossingsCount }
-{
-    0
-}
+{}
 
 /// A triangle has the parity as a reading, and two of its sides have none.
-pub fn triangle_reads() -> u8
+pub fn triangle_reads()
     ensures { Triangle }
-{
-    0
-}
+{}

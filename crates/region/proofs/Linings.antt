@@ -10,8 +10,8 @@ use Rattle.plane.specs.Points.{same_point}
 use Rattle.plane.specs.Rows.{left, twin, segment_of, Long}
 use Rattle.plane.specs.Spots.{MeetImproperly}
 use Rattle.plane.specs.Meeting.{ordered}
-use Rattle.plane.proofs.RowOrder.{row_order}
-use Rattle.plane.proofs.Points.{precedes_back}
+use Rattle.plane.specs.RowOrder.{row_order}
+use Rattle.plane.specs.PointLaws.{precedes_back}
 use Rattle.plane.proofs.Segments.{fit_long, left_or_twin, segment_left, segment_ordered}
 use Rattle.reading.specs.Reading.{Planar, HasReading, OneReading}
 use Rattle.reading.specs.Counting.{ends, degree_at, ClosedLines}

@@ -11,14 +11,13 @@ use Rattle.plane.specs.declared.halfsegment.Halfsegment.{Halfsegment}
 use Rattle.plane.specs.Points.{precedes, same_point}
 use Rattle.plane.specs.Rows.{left, twin, same_row, segment_of, earlier, comes_before, Long}
 use Rattle.plane.specs.Meeting.{improper, drawable}
-use Rattle.plane.proofs.Points.{before_of, rightward, same_point_is, xs_of}
+use Rattle.plane.specs.PointLaws.{before_of, rightward, same_point_is, xs_of}
 use Rattle.plane.proofs.Segments.{same_row_is, same_row_holds, fit_long, left_or_twin, segment_left, segment_twin, segment_ordered, segment_drawable, improper_back, improper_self, improper_apart}
-use Rattle.storage.specs.Rows.{row_at}
 use Rattle.region.specs.declared.refusals.CheckRefusal.TheVariants.{Improper}
 use Rattle.region.specs.Plans.{Rising}
 use Rattle.region.specs.Check.{no_row, row, crowded, meetings_answer}
 use Rattle.region.specs.Verdict.{Misfit, Twinless, Nowhere}
-use Rattle.region.proofs.Passes.{read, fits_at, refused_none, refused_found}
+use Rattle.region.proofs.Passes.{fits_at, refused_none, refused_found}
 
 -- the segment of the row at k meets that of no later left row improperly
 abbrev pub ClearOfLater : List Halfsegment → ℕ → Type 0
@@ -108,16 +107,16 @@ module _ (rows : List Halfsegment) (fits : Nowhere (length rows) (Misfit rows)) 
       refused_found (crowded rows) Improper (length rows) i l (any_in (λ g. improper (at i) (segment_of g)) rows (row rows j) (member_at rows j no_row m) e) (λ k q. uncrowded i clear k q (omega arith))
 
   -- what `meet_improperly` answers of the segments of two rows
-  pub met : (i j : ℕ) (h g : Halfsegment) (l m : Segment) (b : Bool) → i < length rows → j < length rows → Ok h ≡ row_at rows i → Ok g ≡ row_at rows j → l ≡ segment_of h → m ≡ segment_of g → b ≡ (drawable l && (drawable m && improper l m)) → improper (at i) (at j) ≡ b
+  pub met : (i j : ℕ) (h g : Halfsegment) (l m : Segment) (b : Bool) → i < length rows → j < length rows → row rows i ≡ h → row rows j ≡ g → l ≡ segment_of h → m ≡ segment_of g → b ≡ (drawable l && (drawable m && improper l m)) → improper (at i) (at j) ≡ b
   met i j h g l m b li lj p q el em e =
-      let hl : l ≡ at i = el ∙ ap segment_of (sym (read rows i h p)) in
-      let hm : m ≡ at j = em ∙ ap segment_of (sym (read rows j g q)) in
+      let hl : l ≡ at i = el ∙ ap segment_of (sym p) in
+      let hm : m ≡ at j = em ∙ ap segment_of (sym q) in
       let dl : drawable (at i) ≡ true = segment_drawable (row rows i) (fits_at rows fits i li) in
       let dm : drawable (at j) ≡ true = segment_drawable (row rows j) (fits_at rows fits j lj) in
       sym (e ∙ (λ t. drawable (hl t) && (drawable (hm t) && improper (hl t) (hm t))) ∙ (λ t. dl t && (dm t && improper (at i) (at j))))
 
   -- once a row begins further right than the segment of row i ends, so do all later left rows
-  pub clear_rest : (i j : ℕ) (h g : Halfsegment) (l : Segment) → i < length rows → Rising rows → Ok h ≡ row_at rows i → Ok g ≡ row_at rows j → l ≡ segment_of h → l.high.x <ℤ g.dominating.x → (k : ℕ) → j ≤ k → k < length rows → left (row rows k) ≡ true → improper (at i) (at k) ≡ false
+  pub clear_rest : (i j : ℕ) (h g : Halfsegment) (l : Segment) → i < length rows → Rising rows → row rows i ≡ h → row rows j ≡ g → l ≡ segment_of h → l.high.x <ℤ g.dominating.x → (k : ℕ) → j ≤ k → k < length rows → left (row rows k) ≡ true → improper (at i) (at k) ≡ false
   clear_rest i j h g l li rising p q el far k le lk e =
       improper_apart (at i) (at k) (segment_ordered (row rows i) (long_at i li)) (segment_ordered (row rows k) (long_at k lk)) (further (low_x k e) (steps k le lk))
     where
@@ -134,8 +133,8 @@ module _ (rows : List Halfsegment) (fits : Nowhere (length rows) (Misfit rows)) 
 
       further : (at k).low.x ≡ (row rows k).dominating.x → (row rows j).dominating.x ≤ℤ (row rows k).dominating.x → (at i).high.x <ℤ (at k).low.x
       further a b =
-          let c : (at i).high.x ≡ l.high.x = ap (λ s. s.high.x) (sym (el ∙ ap segment_of (sym (read rows i h p)))) in
-          let d : (row rows j).dominating.x ≡ g.dominating.x = ap (λ r. r.dominating.x) (read rows j g q) in
+          let c : (at i).high.x ≡ l.high.x = ap (λ s. s.high.x) (sym (el ∙ ap segment_of (sym p))) in
+          let d : (row rows j).dominating.x ≡ g.dominating.x = ap (λ r. r.dominating.x) q in
           omega (arith, lin)
 
 -- what the code compares, of coordinates that went to bits and back

@@ -1,26 +1,44 @@
--- The passes of check: what a loop found, as the answer of the pass.
-use Rattle.std.proofs.Common.{◌≡◌, ℕ, zero, suc, ◌+◌, ◌-◌, ◌<◌, ◌≤◌, Bool, true, false, cond, not, ◌&&◌, ◌⊎◌, List, length, take, Some, None, Ok, Err, Option, Result, sym, refl, ap, ◌∙◌, inl, inr, arith}
-use Rattle.std.proofs.lemmas.Bool.{cases_order}
-use Rattle.algebra.specs.Parity.{odd}
-use Rattle.algebra.proofs.Members.{Case, holds, fails, case, member_at, any_none, any_in}
-use Rattle.algebra.proofs.Parity.{times_more, odd_more}
-use Rattle.plane.specs.declared.point.Point.{Point}
+-- The passes of check: what a search through the rows found, as the answer of the pass. The main lemma is `pass`.
+use Rattle.std.proofs.Common.{◌≡◌, ℕ, zero, suc, ◌+◌, ◌-◌, ◌<◌, ◌≤◌, Bool, true, false, cond, not, nat_lt, ◌&&◌, ◌||◌, List, [], ◌∷◌, length, get_or, drop, Some, None, Ok, Err, Option, Result, ◌⊎◌, inl, inr, subst, sym, refl, ap, ◌∙◌, add-one, arith}
+use Rattle.std.specs.List.{list_any, count_by, position, position_or_len, find, zip}
+use Rattle.std.proofs.lemmas.Bool.{lt-ltb, le-ltb, cases_order}
+use Rattle.std.proofs.lemmas.List.{get_or-drop, length-drop}
+use Rattle.std.proofs.lemmas.Option.{slice_get-get_or, slice_get_past}
+use Rattle.std.proofs.lemmas.List.Folds.{find_at}
+use Rattle.std.proofs.lemmas.List.Recursion.{is_count_by}
+use Rattle.std.proofs.lemmas.List.Sums.{position_or_len_is}
+use Rattle.std.proofs.lemmas.Slice.Zip.{get_or-zip, length-zip}
+use Rattle.std.specs.List.{slice_get}
+use Rattle.std.specs.Option.{MatchOption, option_map}
+use Rattle.std.specs.Result.{MatchResult}
+use Rattle.std.proofs.Math.Seq.{drop-cons}
+use Rattle.algebra.specs.Members.{any}
+use Rattle.algebra.specs.Parity.{times}
+use Rattle.algebra.proofs.Members.{Case, holds, fails, case}
 use Rattle.plane.specs.declared.halfsegment.Halfsegment.{Halfsegment}
-use Rattle.plane.specs.Points.{same_point}
-use Rattle.plane.specs.Rows.{fit, same_row, twin, comes_before}
-use Rattle.storage.specs.Rows.{row_at}
-use Rattle.storage.proofs.RowLists.{row_at_read}
+use Rattle.plane.specs.Rows.{fit, comes_before}
 use Rattle.region.specs.declared.refusals.RowFault.{RowFault}
 use Rattle.region.specs.declared.refusals.CheckRefusal.{CheckRefusal}
-use Rattle.region.specs.declared.refusals.CheckRefusal.TheVariants.{Unclosed}
-use Rattle.region.specs.Plans.{degree}
-use Rattle.region.specs.Check.{first, no_row, row, row_fault, faulty, misplaced, stands, twinless, uneven, refused_at, placed, each_answer, corners_answer}
+use Rattle.region.specs.declared.refusals.CheckRefusal.TheVariants.{BadRow, Unsorted}
+use Rattle.region.specs.Check.{first, no_row, row, misplaced, refused_at, order_answer, row_fault, faulty, placed, each_answer}
 use Rattle.region.specs.Verdict.{Misfit, Nowhere}
-use Rattle.region.proofs.Firsts.{first_none, first_at}
+use Rattle.region.proofs.Firsts.{Sought, nowhere, somewhere, sought, first_none, first_at}
 
--- the row that was read at i
-pub read : (rows : List Halfsegment) (i : ℕ) (h : Halfsegment) → Ok h ≡ row_at rows i → row rows i ≡ h
-read rows i h e = row_at_read rows i h no_row e
+-- words of std's lists for those of the crates
+pub any_is : {A : Type 0} (test : A → Bool) (zs : List A) → list_any test zs ≡ any test zs
+any_is test [] = refl
+any_is test (a ∷ zs) = ap (λ b. test a || b) (any_is test zs)
+
+pub times_is : {A : Type 0} (test : A → Bool) (zs : List A) → times test zs ≡ count_by test zs
+times_is test zs = is_count_by (times test) test refl (λ x xs. ap (λ n. cond (test x) n (times test xs)) (omega arith)) zs
+
+-- where no row misfits, each fits
+pub fits_at : (rows : List Halfsegment) → Nowhere (length rows) (Misfit rows) → (i : ℕ) → i < length rows → fit (row rows i) ≡ true
+fits_at rows none i l = go (case (fit (row rows i)))
+  where
+    go : Case (fit (row rows i)) → fit (row rows i) ≡ true
+    go (holds e) = e
+    go (fails e) = absurd (none i l e)
 
 -- the test failed at all places below i, and at i
 pub more : (test : ℕ → Bool) (i : ℕ) → ((k : ℕ) → k < i → test k ≡ false) → test i ≡ false → (k : ℕ) → k < i + 1 → test k ≡ false
@@ -37,15 +55,106 @@ refused_none test refusal n i l h = sym (ap (λ o. refused_at o refusal) (first_
 pub refused_found : (test : ℕ → Bool) (refusal : ℕ → CheckRefusal) (n i : ℕ) → i < n → test i ≡ true → ((k : ℕ) → k < i → test k ≡ false) → Err (refusal i) ≡ refused_at (first test n) refusal
 refused_found test refusal n i l e h = sym (ap (λ o. refused_at o refusal) (first_at test n i l e h))
 
--- where no row misfits, each fits
-pub fits_at : (rows : List Halfsegment) → Nowhere (length rows) (Misfit rows) → (i : ℕ) → i < length rows → fit (row rows i) ≡ true
-fits_at rows none i l = go (case (fit (row rows i)))
-  where
-    go : Case (fit (row rows i)) → fit (row rows i) ≡ true
-    go (holds e) = e
-    go (fails e) = absurd (none i l e)
+-- h is the row at i, and those behind it are left
+pub record Front (rows : List Halfsegment) (i : ℕ) (h : Halfsegment) (left : List Halfsegment) : Type 0 where
+  pub within : i < length rows
+  pub is : row rows i ≡ h
+  pub rest : drop (i + 1) rows ≡ left
 
--- row by row
+pub front : (rows : List Halfsegment) (i : ℕ) (h : Halfsegment) (left : List Halfsegment) → drop i rows ≡ h ∷ left → Front rows i h left
+front rows i h left e =
+    let count : length rows - i ≡ suc (length left) = sym (length-drop i rows) ∙ ap length e in
+    let first : get_or rows i no_row ∷ drop (suc i) rows ≡ h ∷ left = sym (drop-cons rows i no_row (omega arith)) ∙ e in
+    record { within = omega arith; is = cc; rest = rw (add-one i) cc }
+
+pub past : (rows : List Halfsegment) (i : ℕ) → drop i rows ≡ [] → length rows ≤ i
+past rows i e = let none : length rows - i ≡ 0 = sym (length-drop i rows) ∙ ap length e in omega arith
+
+-- a search through a list for a test, as a search through places for what it says there
+module _ {A : Type 0} (test : A → Bool) (zs : List A) (d : A) (at : ℕ → Bool) (same : (k : ℕ) → k < length zs → at k ≡ test (get_or zs k d)) where
+  abbrev found : ℕ → Option ℕ
+  found i = cond (nat_lt i (length zs)) (Some i) None
+
+  pub position_is : position test zs ≡ first at (length zs)
+  position_is = go (sought at (length zs))
+    where
+      go : Sought at (length zs) → position test zs ≡ first at (length zs)
+      go (nowhere q none) =
+          ap found (position_or_len_is test zs (length zs) d (omega arith) (λ k l. sym (same k l) ∙ none k l) (λ l. absurd (omega arith)))
+          ∙ ap (λ t. cond t (Some (length zs)) None) (le-ltb (length zs) (length zs) (omega arith)) ∙ sym q
+      go (somewhere i q l hit none) =
+          ap found (position_or_len_is test zs i d (omega arith) (λ k m. sym (same k (omega arith)) ∙ none k m) (λ _. sym (same i l) ∙ hit))
+          ∙ ap (λ t. cond t (Some i) None) (lt-ltb i (length zs) l) ∙ sym q
+
+-- an answer by what a search gave is the answer of the pass
+pub refused_is : (o : Option ℕ) (refusal : ℕ → CheckRefusal) (r : Result Unit CheckRefusal) → MatchOption o (r ≡ Ok tt) (λ i. r ≡ Err (refusal i)) → r ≡ refused_at o refusal
+refused_is None refusal r e = e
+refused_is (Some i) refusal r e = e
+
+module _ (rows : List Halfsegment) where
+  -- the first row that passes a test, as a refusal that names what the row at the place has
+  pub find_is : (test : Halfsegment → Bool) (refusal : Halfsegment → CheckRefusal) (o : Option Halfsegment) (r : Result Unit CheckRefusal) → option_map (λ x. x) o ≡ find test rows → MatchOption o (r ≡ Ok tt) (λ h. r ≡ Err (refusal h)) → r ≡ refused_at (first (λ i. test (row rows i)) (length rows)) (λ i. refusal (row rows i))
+  find_is test refusal o r f e = go (sought (λ i. test (row rows i)) (length rows))
+    where
+      told : Option Halfsegment → Type 0
+      told o = MatchOption o (r ≡ Ok tt) (λ h. r ≡ Err (refusal h))
+
+      mapped : (o : Option Halfsegment) → told o → told (option_map (λ x. x) o)
+      mapped None t = t
+      mapped (Some h) t = t
+
+      at : (i : ℕ) → position_or_len test rows ≡ i → told (slice_get rows i)
+      at i p = subst told (f ∙ find_at test rows ∙ ap (slice_get rows) p) (mapped o e)
+
+      go : Sought (λ i. test (row rows i)) (length rows) → r ≡ refused_at (first (λ i. test (row rows i)) (length rows)) (λ i. refusal (row rows i))
+      go (nowhere q none) =
+          subst told (slice_get_past rows (length rows) (omega arith)) (at (length rows) (position_or_len_is test rows (length rows) no_row (omega arith) none (λ l. absurd (omega arith))))
+          ∙ ap (λ o. refused_at o (λ i. refusal (row rows i))) (sym q)
+      go (somewhere i q l hit none) =
+          subst told (slice_get-get_or rows i no_row l) (at i (position_or_len_is test rows i no_row (omega arith) none (λ _. hit)))
+          ∙ ap (λ o. refused_at o (λ i. refusal (row rows i))) (sym q)
+
+  abbrev pairs : List (Halfsegment × Halfsegment)
+  pairs = zip rows (drop 1 rows)
+
+  pairs_count : length pairs ≡ length rows - 1
+  pairs_count = simp (length-zip, length-drop) (omega arith)
+
+  pair_at : (k : ℕ) → k < length rows - 1 → get_or pairs k (no_row, no_row) ≡ (row rows k, row rows (suc k))
+  pair_at k l = get_or-zip rows (drop 1 rows) k (no_row, no_row) (omega arith) (simp length-drop (omega arith)) ∙ ap (λ x. (row rows k, x)) (get_or-drop 1 rows k no_row ∙ ap (row rows) (omega arith))
+
+  -- neighbours that are not in order, where all rows fit
+  pub order_is : Nowhere (length rows) (Misfit rows) → (test : Halfsegment × Halfsegment → Bool) → ((p : Halfsegment × Halfsegment) → test p ≡ not (fit p.0 && (fit p.1 && comes_before p.0 p.1))) → (o : Option ℕ) (r : Result Unit CheckRefusal) → o ≡ position test pairs → MatchOption o (r ≡ Ok tt) (λ i. r ≡ Err (Unsorted (i + 1))) → r ≡ order_answer rows
+  order_is fits test same o r f e = go (sought (misplaced rows) (length rows))
+    where
+      test_at : (k : ℕ) → k < length rows - 1 → test (get_or pairs k (no_row, no_row)) ≡ misplaced rows (suc k)
+      test_at k l =
+          ap test (pair_at k l) ∙ same (row rows k, row rows (suc k))
+          ∙ (λ i. not (fits_at rows fits k (omega arith) i && (fits_at rows fits (suc k) (omega arith) i && comes_before (row rows k) (row rows (suc k)))))
+
+      told : Option ℕ → Type 0
+      told o = MatchOption o (r ≡ Ok tt) (λ i. r ≡ Err (Unsorted (i + 1)))
+
+      at : (i : ℕ) → position_or_len test pairs ≡ i → told (cond (nat_lt i (length pairs)) (Some i) None)
+      at i p = subst told (f ∙ ap (λ i. cond (nat_lt i (length pairs)) (Some i) None) p) e
+
+      go : Sought (misplaced rows) (length rows) → r ≡ order_answer rows
+      go (nowhere q none) =
+          subst told (ap (λ t. cond t (Some (length pairs)) None) (le-ltb (length pairs) (length pairs) (omega arith)))
+          (at (length pairs) (position_or_len_is test pairs (length pairs) (no_row, no_row) (omega arith) (λ k l. test_at k (omega (arith, pairs_count)) ∙ none (suc k) (omega (arith, pairs_count))) (λ l. absurd (omega arith))))
+          ∙ ap (λ o. refused_at o Unsorted) (sym q)
+      go (somewhere zero q l hit none) = absurd (grind arith)
+      go (somewhere (suc i) q l hit none) =
+          subst told (ap (λ t. cond t (Some i) None) (lt-ltb i (length pairs) (omega (arith, pairs_count))))
+          (at i (position_or_len_is test pairs i (no_row, no_row) (omega (arith, pairs_count)) (λ k m. test_at k (omega arith) ∙ none (suc k) (omega arith)) (λ _. test_at i (omega arith) ∙ hit)))
+          ∙ ap (λ n. Err (Unsorted n)) (add-one i) ∙ ap (λ o. refused_at o Unsorted) (sym q)
+
+-- the answer of one row's test, with the row's place
+pub placed_is : (i : ℕ) (t : Result Unit RowFault) (r : Result Unit CheckRefusal) → MatchResult t (λ x. r ≡ Ok x) (λ f. r ≡ Err (BadRow i f)) → r ≡ placed i t
+placed_is i (Ok _) r e = e
+placed_is i (Err f) r e = e
+
+-- row by row: the rows from i on are those that are left
 module _ (rows : List Halfsegment) where
   abbrev each_test : ℕ → Bool
   each_test i = faulty (row_fault (row rows i))
@@ -53,8 +162,8 @@ module _ (rows : List Halfsegment) where
   abbrev each_of : Option ℕ → Result Unit CheckRefusal
   each_of o = elim o [ None ↦ Ok tt | Some i ↦ placed i (row_fault (row rows i)) ]
 
-  pub each_none : (i : ℕ) → length rows ≤ i → ((k : ℕ) → k < i → each_test k ≡ false) → Ok tt ≡ each_answer rows
-  each_none i l h = sym (ap each_of (first_none each_test (length rows) (λ k m. h k (omega arith))))
+  pub each_none : (i : ℕ) → drop i rows ≡ [] → ((k : ℕ) → k < i → each_test k ≡ false) → Ok tt ≡ each_answer rows
+  each_none i none h = sym (ap each_of (first_none each_test (length rows) (λ k m. h k (omega (arith, past rows i none)))))
 
   fault_is : (i : ℕ) (t : Result Unit RowFault) (e : CheckRefusal) → Err e ≡ placed i t → faulty t ≡ true
   fault_is i (Ok _) e q = absurd (grind arith)
@@ -64,62 +173,10 @@ module _ (rows : List Halfsegment) where
   no_fault i (Ok _) q = refl
   no_fault i (Err f) q = absurd (grind arith)
 
-  pub each_found : (i : ℕ) (h : Halfsegment) (t : Result Unit RowFault) (e : CheckRefusal) → i < length rows → Ok h ≡ row_at rows i → t ≡ row_fault h → Err e ≡ placed i t → ((k : ℕ) → k < i → each_test k ≡ false) → Err e ≡ each_answer rows
-  each_found i h t e l r f q none =
-      let is : t ≡ row_fault (row rows i) = f ∙ ap row_fault (sym (read rows i h r)) in
-      q ∙ ap (placed i) is ∙ sym (ap each_of (first_at each_test (length rows) i l (ap faulty (sym is) ∙ fault_is i t e q) none))
+  pub each_found : (i : ℕ) (h : Halfsegment) (left : List Halfsegment) (e : CheckRefusal) → Front rows i h left → Err e ≡ placed i (row_fault h) → ((k : ℕ) → k < i → each_test k ≡ false) → Err e ≡ each_answer rows
+  each_found i h left e here fault none =
+      let is : row_fault h ≡ row_fault (row rows i) = ap row_fault (sym here.is) in
+      fault ∙ ap (placed i) is ∙ sym (ap each_of (first_at each_test (length rows) i here.within (ap faulty (sym is) ∙ fault_is i (row_fault h) e fault) none))
 
-  pub each_more : (i : ℕ) (h : Halfsegment) (t : Result Unit RowFault) → Ok h ≡ row_at rows i → t ≡ row_fault h → Ok tt ≡ placed i t → ((k : ℕ) → k < i → each_test k ≡ false) → (k : ℕ) → k < i + 1 → each_test k ≡ false
-  each_more i h t r f q none = more each_test i none (ap (λ x. faulty (row_fault x)) (read rows i h r) ∙ ap faulty (sym f) ∙ no_fault i t q)
-
-  -- the order of two neighbours
-  pub misplaced_is : (i : ℕ) (g h : Halfsegment) (b : Bool) → 0 < i → Ok g ≡ row_at rows (i - 1) → Ok h ≡ row_at rows i → b ≡ comes_before g h → misplaced rows i ≡ not b
-  misplaced_is zero g h b l p q e = absurd (omega arith)
-  misplaced_is (suc i) g h b l p q e =
-      let prev : row rows i ≡ g = ap (row rows) (pred_is i) ∙ read rows (suc i - 1) g p in
-      (λ j. not (comes_before (prev j) (read rows (suc i) h q j))) ∙ ap not (sym e)
-    where
-      pred_is : (i : ℕ) → i ≡ suc i - 1
-      pred_is i = omega arith
-
-  -- the twin of a row
-  pub twinless_is : (i : ℕ) (h t : Halfsegment) (b : Bool) → Ok h ≡ row_at rows i → t ≡ twin h → b ≡ stands rows t → twinless rows i ≡ not b
-  twinless_is i h t b p q e = ap (λ x. not (stands rows (twin x))) (read rows i h p) ∙ ap (λ x. not (stands rows x)) (sym q) ∙ ap not (sym e)
-
-  pub stands_none : (h : Halfsegment) (i : ℕ) → length rows ≤ i → ((k : ℕ) → k < i → same_row (row rows k) h ≡ false) → false ≡ stands rows h
-  stands_none h i l none = sym (any_none (λ g. same_row g h) rows no_row (λ k m. none k (omega arith)))
-
-  pub stands_at : (h g : Halfsegment) (i : ℕ) → i < length rows → Ok g ≡ row_at rows i → same_row g h ≡ true → true ≡ stands rows h
-  stands_at h g i l p e = sym (any_in (λ g. same_row g h) rows (row rows i) (member_at rows i no_row l) (ap (λ x. same_row x h) (read rows i g p) ∙ e))
-
-  -- the corner of a row
-  pub uneven_is : (i : ℕ) (h : Halfsegment) (b : Bool) → Ok h ≡ row_at rows i → b ≡ odd (degree rows h.dominating) → uneven rows i ≡ b
-  uneven_is i h b p e = ap (λ x. odd (degree rows x.dominating)) (read rows i h p) ∙ sym e
-
-  pub uneven_found : (i : ℕ) (h : Halfsegment) → i < length rows → Ok h ≡ row_at rows i → uneven rows i ≡ true → ((k : ℕ) → k < i → uneven rows k ≡ false) → Err (Unclosed h.dominating) ≡ corners_answer rows
-  uneven_found i h l p e none =
-      ap (λ x. Err (Unclosed x.dominating)) (sym (read rows i h p)) ∙ refused_found (uneven rows) (λ i. Unclosed (row rows i).dominating) (length rows) i l e none
-
-  -- one more row at a corner, or not
-  counted : (v : Point) (i : ℕ) (h : Halfsegment) (t : Bool) → i < length rows → Ok h ≡ row_at rows i → same_point h.dominating v ≡ t → degree (take (i + 1) rows) v ≡ cond t (suc (degree (take i rows) v)) (degree (take i rows) v)
-  counted v i h t l p e =
-      times_more (λ g. same_point g.dominating v) rows i no_row l
-      ∙ ap (λ b. cond b (suc (degree (take i rows) v)) (degree (take i rows) v)) (ap (λ x. same_point x.dominating v) (read rows i h p) ∙ e)
-
-  pub odd_hit : (v : Point) (i : ℕ) (h : Halfsegment) (b : Bool) → i < length rows → Ok h ≡ row_at rows i → same_point h.dominating v ≡ true → b ≡ odd (degree (take i rows) v) → not b ≡ odd (degree (take (i + 1) rows) v)
-  odd_hit v i h b l p e q = ap not q ∙ odd_more (degree (take i rows) v) ∙ ap odd (sym (counted v i h true l p e))
-
-  pub odd_missed : (v : Point) (i : ℕ) (h : Halfsegment) (b : Bool) → i < length rows → Ok h ≡ row_at rows i → same_point h.dominating v ≡ false → b ≡ odd (degree (take i rows) v) → b ≡ odd (degree (take (i + 1) rows) v)
-  odd_missed v i h b l p e q = q ∙ ap odd (sym (counted v i h false l p e))
-
--- what `comes_before` answers of two neighbours that fit
-pub neighbours : (rows : List Halfsegment) → Nowhere (length rows) (Misfit rows) → (i : ℕ) (g h : Halfsegment) (b : Bool) → 0 < i → i < length rows → Ok g ≡ row_at rows (i - 1) → Ok h ≡ row_at rows i → b ≡ (fit g && (fit h && comes_before g h)) → misplaced rows i ≡ not b
-neighbours rows fits i g h b l m p q e =
-    let fg : fit g ≡ true = ap fit (sym (read rows (i - 1) g p)) ∙ fits_at rows fits (i - 1) (omega arith) in
-    let fh : fit h ≡ true = ap fit (sym (read rows i h q)) ∙ fits_at rows fits i m in
-    misplaced_is rows i g h b l p q (e ∙ (λ t. fg t && (fh t && comes_before g h)))
-
--- nothing is misplaced at the first place
-pub first_misplaced : (rows : List Halfsegment) (k : ℕ) → k < 1 → misplaced rows k ≡ false
-first_misplaced rows zero l = refl
-first_misplaced rows (suc k) l = absurd (omega arith)
+  pub each_more : (i : ℕ) (h : Halfsegment) (left : List Halfsegment) → Front rows i h left → Ok tt ≡ placed i (row_fault h) → ((k : ℕ) → k < i → each_test k ≡ false) → (k : ℕ) → k < i + 1 → each_test k ≡ false
+  each_more i h left here fits none = more each_test i none (ap (λ x. faulty (row_fault x)) here.is ∙ no_fault i (row_fault h) fits)

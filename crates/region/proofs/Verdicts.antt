@@ -11,9 +11,9 @@ use Rattle.plane.specs.Points.{in_range, same_point, precedes}
 use Rattle.plane.specs.Rows.{fit, twin, same_row, segment_of, earlier, comes_before, Long}
 use Rattle.plane.specs.Spots.{MeetImproperly}
 use Rattle.plane.specs.Meeting.{improper}
-use Rattle.plane.proofs.Points.{same_point_is, precedes_self, precedes_back}
+use Rattle.plane.specs.PointLaws.{same_point_is, precedes_self, precedes_back}
 use Rattle.plane.proofs.Segments.{same_row_is, same_row_holds, fit_long, segment_ordered}
-use Rattle.plane.proofs.RowOrder.{row_order}
+use Rattle.plane.specs.RowOrder.{row_order}
 use Rattle.plane.proofs.Meetings.{signs_tell}
 use Rattle.region.specs.declared.refusals.RowFault.{RowFault}
 use Rattle.region.specs.declared.refusals.RowFault.TheVariants.{OutOfRange, NoLength}

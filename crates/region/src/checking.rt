@@ -8,7 +8,7 @@ ghost use Rattle.region.specs.Verdict.{Accepts, Misfit, Nowhere, Twinless, Verdi
 
 use crate::refusals::{CheckRefusal, RowFault};
 use plane::{Halfsegment, Point, meet_improperly};
-use storage::Source;
+use storage::{Rows, Source};
 
 /// Tests one row by itself.
 fn test_row(h: Halfsegment) -> Result<(), RowFault>
@@ -20,28 +20,17 @@ fn test_row(h: Halfsegment) -> Result<(), RowFault>
     if !h.far.in_range() {
         return Err(RowFault::OutOfRange);
     }
-    if h.dominating.coincides(h.far) {
+    if h.dominating == h.far {
         return Err(RowFault::NoLength);
     }
     Ok(())
 }
 
-/// Adds the row's place to what the test of the row found.
-fn at_place(i: usize, tested: Result<(), RowFault>) -> Result<(), CheckRefusal>
-    ensures { result ≡ placed i tested }
-{
-    match tested {
-        Ok(()) => Ok(()),
-        Err(fault) => Err(CheckRefusal::BadRow(i, fault)),
-    }
-}
-
 fn check_each<S: Source>(s: &S) -> Result<(), CheckRefusal>
     ensures { result ≡ each_answer (S.rows s.now) }
 {
-    for i in 0..s.count() {
-        let Ok(h) = s.row(i) else { return Ok(()) };
-        at_place(i, test_row(h))?;
+    for (i, h) in Rows::of(s).enumerate() {
+        test_row(h).map_err(|fault| CheckRefusal::BadRow(i, fault))?;
     }
     Ok(())
 }
@@ -51,55 +40,40 @@ fn check_order<S: Source>(s: &S) -> Result<(), CheckRefusal>
     requires { Nowhere (length (S.rows s.now)) (Misfit (S.rows s.now)) }
     ensures { result ≡ order_answer (S.rows s.now) }
 {
-    for i in 1..s.count() {
-        let Ok(g) = s.row(i - 1) else { return Ok(()) };
-        let Ok(h) = s.row(i) else { return Ok(()) };
-        if !g.comes_before(h) {
-            return Err(CheckRefusal::Unsorted(i));
-        }
-    }
-    Ok(())
+    let mut neighbours = Rows::from_place(s, 0).zip(Rows::from_place(s, 1));
+    neighbours
+        .position(|(g, h)| !(g < h))
+        .map_or(Ok(()), |i| Err(CheckRefusal::Unsorted(i + 1)))
 }
 
 /// Whether the row is one of the source's.
 fn has_row<S: Source>(s: &S, h: Halfsegment) -> bool
     ensures { result ≡ stands (S.rows s.now) h }
 {
-    for i in 0..s.count() {
-        let Ok(g) = s.row(i) else { return false };
-        if g.coincides(h) {
-            return true;
-        }
-    }
-    false
+    Rows::of(s).any(|g| g == h)
 }
 
 /// Whether each row's twin is there.
 fn check_twins<S: Source>(s: &S) -> Result<(), CheckRefusal>
     ensures { result ≡ twins_answer (S.rows s.now) }
 {
-    for i in 0..s.count() {
-        let Ok(h) = s.row(i) else { return Ok(()) };
-        if !has_row(s, h.twin()) {
-            return Err(CheckRefusal::NoTwin(i));
-        }
-    }
-    Ok(())
+    Rows::of(s)
+        .position(|h| !has_row(s, h.twin()))
+        .map_or(Ok(()), |i| Err(CheckRefusal::NoTwin(i)))
 }
 
 /// Whether no two segments meet improperly. Each segment is met at its left row, and once a left row begins further
 /// right than a segment ends, so do all later ones.
 fn check_meetings<S: Source>(s: &S) -> Result<(), CheckRefusal>
-    requires { (Nowhere (length (S.rows s.now)) (Misfit (S.rows s.now))) × ((Rising (S.rows s.now)) × (Nowhere (length (S.rows s.now)) (Twinless (S.rows s.now)))) }
+    requires fits { Nowhere (length (S.rows s.now)) (Misfit (S.rows s.now)) }
+    requires rising { Rising (S.rows s.now) }
+    requires twins { Nowhere (length (S.rows s.now)) (Twinless (S.rows s.now)) }
     ensures { result ≡ meetings_answer (S.rows s.now) }
 {
-    let n = s.count();
     let mut found = Ok(());
-    'search: for i in 0..n {
-        let Ok(h) = s.row(i) else { break 'search };
+    'search: for (i, h) in Rows::of(s).enumerate() {
         let l = h.segment();
-        for j in i + 1..n {
-            let Ok(g) = s.row(j) else { break 'search };
+        for g in Rows::from_place(s, i + 1) {
             if g.dominating.x > l.high.x {
                 break;
             }
@@ -116,27 +90,16 @@ fn check_meetings<S: Source>(s: &S) -> Result<(), CheckRefusal>
 fn is_odd_corner<S: Source>(s: &S, v: Point) -> bool
     ensures { result ≡ odd (degree (S.rows s.now) v) }
 {
-    let mut is_odd = false;
-    for i in 0..s.count() {
-        let Ok(h) = s.row(i) else { return is_odd };
-        if h.dominating.coincides(v) {
-            is_odd = !is_odd;
-        }
-    }
-    is_odd
+    Rows::of(s).filter(|h| h.dominating == v).count() % 2 == 1
 }
 
 /// Whether each corner has an even number of rows.
 fn check_corners<S: Source>(s: &S) -> Result<(), CheckRefusal>
     ensures { result ≡ corners_answer (S.rows s.now) }
 {
-    for i in 0..s.count() {
-        let Ok(h) = s.row(i) else { return Ok(()) };
-        if is_odd_corner(s, h.dominating) {
-            return Err(CheckRefusal::Unclosed(h.dominating));
-        }
-    }
-    Ok(())
+    Rows::of(s)
+        .find(|h| is_odd_corner(s, h.dominating))
+        .map_or(Ok(()), |h| Err(CheckRefusal::Unclosed(h.dominating)))
 }
 
 /// Whether the rows, with whatever coordinates, are well formed and closed; else the first thing that is wrong: row by
@@ -153,8 +116,6 @@ pub fn check<S: Source>(s: &S) -> Result<(), CheckRefusal>
 }
 
 /// Check finds nothing wrong exactly where the rows are well formed and closed.
-pub fn check_accepts() -> u8
+pub fn check_accepts()
     ensures { Accepts }
-{
-    0
-}
+{}

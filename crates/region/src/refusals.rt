@@ -5,25 +5,22 @@ ghost use Rattle.region.specs.Check.{check_number, fault_number};
 use plane::Point;
 
 /// What is wrong with one row by itself.
-#[derive(Clone, Copy, PartialEq, Eq)]
+#[derive(Clone, Copy, Debug, PartialEq, Eq)]
 pub enum RowFault {
-    OutOfRange,
-    NoLength,
+    OutOfRange = 1,
+    NoLength = 2,
 }
 
 impl RowFault {
     pub fn number(self) -> u8
         ensures { result ≡ fault_number self }
     {
-        match self {
-            RowFault::OutOfRange => 1,
-            RowFault::NoLength => 2,
-        }
+        self as u8
     }
 }
 
 /// The first thing that is wrong with the rows of a plan: at a row's place, or at a corner.
-#[derive(Clone, Copy, PartialEq, Eq)]
+#[derive(Clone, Copy, Debug, PartialEq, Eq)]
 pub enum CheckRefusal {
     BadRow(usize, RowFault),
     Unsorted(usize),

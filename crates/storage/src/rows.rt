@@ -1,39 +1,50 @@
 //! The rows of a source, one after the other.
-ghost use Rattle.std.specs.Prelude.{◌≡◌, drop};
+ghost use Rattle.std.specs.Prelude.{◌≡◌, ◌<◌, ◌^◌, length, drop};
 ghost use Rattle.std.specs.Iterator.{YieldsFirst, item_count};
+ghost use Rattle.std.specs.List.{between};
 
 use crate::interface::Source;
 use plane::Halfsegment;
+use std::ops::Range;
 
-/// The rows of a source from a place on.
+/// The rows of a source at the places that are still to come.
 #[derive(Drop)]
 pub struct Rows<'a, S> {
     source: &'a S,
-    next: usize,
+    places: Range<usize>,
 }
 
 impl<'a, S: Source> Rows<'a, S> {
     /// All rows of the source, in order.
     pub fn of(source: &'a S) -> Rows<'a, S>
-        ensures { drop result.next (S.rows result.source.now) ≡ S.rows source.now }
+        ensures rows { between result.places.start result.places.end (S.rows result.source.now) ≡ S.rows source.now }
+        ensures fits { length (S.rows source.now) < 2 ^ 64 }
     {
-        Rows { source, next: 0 }
+        Rows::from_place(source, 0)
+    }
+
+    /// The rows from the place on, in order.
+    pub fn from_place(source: &'a S, place: usize) -> Rows<'a, S>
+        ensures rows { between result.places.start result.places.end (S.rows result.source.now) ≡ drop place (S.rows source.now) }
+        ensures fits { length (S.rows source.now) < 2 ^ 64 }
+    {
+        Rows {
+            source,
+            places: place..source.count(),
+        }
     }
 }
 
 impl<'a, S: Source> Iterator for Rows<'a, S> {
     type Item = Halfsegment;
 
-    ghost next_gives = { YieldsFirst (λ s. drop s.next (S.rows s.source.now)) };
+    ghost next_gives = { YieldsFirst (λ s. between s.places.start s.places.end (S.rows s.source.now)) };
 
-    ghost remaining = { item_count (λ s. drop s.next (S.rows s.source.now)) };
+    ghost remaining = { item_count (λ s. between s.places.start s.places.end (S.rows s.source.now)) };
 
     fn next(&mut self) -> Option<Halfsegment> {
-        if self.next >= self.source.count() {
-            return None;
-        }
-        let Ok(row) = self.source.row(self.next) else { return None };
-        self.next += 1;
+        let place = self.places.next()?;
+        let Ok(row) = self.source.row(place) else { return None };
         Some(row)
     }
 }

@@ -28,7 +28,7 @@ check_meetings-requires g c =
     let rows = g.S.Source.rows c.args.s.now in
     let fits = each_fits rows c.in_ok-check_each.ensures in
     let rising = order_rises rows fits c.in_ok-check_order.ensures in
-    (fits, (rising, twins_there rows fits rising c.in_ok-check_twins.ensures))
+    record { fits = fits; rising = rising; twins = twins_there rows fits rising c.in_ok-check_twins.ensures }
 
 pub returns-in_err-check_meetings : goal.returns-in_err-check_meetings
 returns-in_err-check_meetings g c =

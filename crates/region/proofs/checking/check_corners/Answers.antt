@@ -1,24 +1,18 @@
-use Rattle.std.proofs.Common.{length, ◌∙◌, arith}
-use Rattle.storage.proofs.RowLists.{row_at_past}
+use Rattle.std.proofs.Common.{rules, tests}
+use Rattle.std.specs.List.{between}
+use Rattle.std.proofs.lemmas.Iterator.Consumers.{YieldsList-from_first}
+use Rattle.std.proofs.lemmas.Iterator.Search.{find_from_yields_List}
+use Rattle.algebra.specs.Parity.{odd}
 use Rattle.region.specs.declared.refusals.CheckRefusal.TheVariants.{Unclosed}
-use Rattle.region.specs.Check.{row, uneven}
-use Rattle.region.proofs.Passes.{more, refused_none, uneven_is, uneven_found}
+use Rattle.region.specs.Plans.{degree}
+use Rattle.region.proofs.Passes.{find_is}
 use Rattle.region.proofs.checking.check_corners.Goals as goal
-
-pub returns-in_default : goal.returns-in_default
-returns-in_default g c = absurd (omega (arith, row_at_past (g.S.Source.rows c.args.s.now) c.loop-i.i _ c.in_default.ensures))
-
-pub returns-then-is_odd_corner : goal.returns-then-is_odd_corner
-returns-then-is_odd_corner g c =
-    let rows = g.S.Source.rows c.args.s.now in
-    uneven_found rows c.loop-i.i _ (omega arith) c.in-Ok.ensures (uneven_is rows c.loop-i.i _ c.is_odd_corner.result c.in-Ok.ensures c.is_odd_corner.ensures ∙ c.if-is_odd_corner.true) c.loop-i.invariant
-
-pub loop-i-preserved : goal.loop-i-preserved
-loop-i-preserved g c =
-    let rows = g.S.Source.rows c.args.s.now in
-    more (uneven rows) c.loop-i.i c.loop-i.invariant (uneven_is rows c.loop-i.i _ c.is_odd_corner.result c.in-Ok.ensures c.is_odd_corner.ensures ∙ c.if-is_odd_corner.false)
 
 pub returns : goal.returns
 returns g c =
     let rows = g.S.Source.rows c.args.s.now in
-    refused_none (uneven rows) (λ i. Unclosed (row rows i).dominating) (length rows) c.loop-i.i (omega arith) c.loop-i.invariant
+    find_is rows (λ h. odd (degree rows h.dominating)) (λ h. Unclosed h.dominating) c.find.result c.map_or.result
+    (find_from_yields_List (λ h. odd (degree rows h.dominating)) c.find.new.self _ c.find.result c.find.ensures.ran
+    (YieldsList-from_first (λ x. x) (λ s. between s.places.start s.places.end (g.S.Source.rows s.source.now)) rows c.of.ensures.rows)
+    (λ x b q k. search (rules, tests)))
+    (search rules)

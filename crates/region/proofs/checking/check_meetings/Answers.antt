@@ -1,53 +1,80 @@
-use Rattle.std.proofs.Common.{◌≡◌, true, false, sym, ap, ◌∙◌, ⊎_elim, arith, rules}
+use Rattle.std.proofs.Common.{◌≡◌, ◌+◌, Err, true, false, drop, sym, ap, ◌∙◌, ⊎_elim, arith, rules}
 use Rattle.std.proofs.lemmas.Bool.{cases_lt}
 use Rattle.algebra.proofs.Members.{apart}
 use Rattle.plane.specs.Rows.{left, segment_of}
 use Rattle.plane.specs.Meeting.{improper}
-use Rattle.storage.proofs.RowLists.{row_at_past}
+use Rattle.region.specs.declared.refusals.CheckRefusal.TheVariants.{Improper}
 use Rattle.region.specs.Check.{row}
-use Rattle.region.proofs.Passes.{read}
+use Rattle.region.proofs.Passes.{front, past}
 use Rattle.region.proofs.Meetings.{ClearOfLater, met, clear_rest, clear_more, all_more, further, meetings_none, meetings_found}
 use Rattle.region.proofs.checking.check_meetings.Goals as goal
-use Rattle.region.proofs.checking.check_meetings.Goals.{else-is_left-via-then-is_left+else-meet_improperly, else-is_left-via-else-is_left, else-loop-j-test, then-loop-j-test+in-Ok-row+then-g-l}
+use Rattle.region.proofs.checking.check_meetings.Goals.{else-is_left-via-then-is_left+else-meet_improperly, else-is_left-via-else-is_left}
 
-pub loop-j-preserved : goal.loop-j-preserved
-loop-j-preserved g c =
-    let rows = g.S.Source.rows c.args.s.now in (
-      c.loop-j.invariant.0,
-      clear_more (λ j. left (row rows j) ≡ true → improper (segment_of (row rows c.search.i)) (segment_of (row rows j)) ≡ false) c.search.i c.loop-j.j c.loop-j.invariant.1
-          (elim c.else-is_left.branch [
-            | else-is_left-via-then-is_left+else-meet_improperly w ↦ λ _. met rows c.requires.0 c.requires.1.1 c.search.i c.loop-j.j _ _ c.segment-l.result w.segment.result w.meet_improperly.result (omega arith) (omega arith) c.in-Ok.ensures c.in-Ok-row.ensures c.segment-l.ensures w.segment.ensures w.meet_improperly.ensures.signs ∙ w.if-meet_improperly.false
-            | else-is_left-via-else-is_left w ↦ λ e. absurd (apart e (ap left (read rows c.loop-j.j _ c.in-Ok-row.ensures) ∙ sym c.is_left.ensures ∙ w.if-is_left.false))
-          ]),
+pub search-preserved-in-None-g : goal.search-preserved-in-None-g
+search-preserved-in-None-g g c =
+    let rows = g.S.Source.rows c.args.s.now in
+    let s = c.in-Some.ensures.steps in
+    let here = front rows c.search.i-iterator.count c.in-Some.h _ (sym c.search.invariant.0 ∙ s.0) in
+    let at : c.segment-l.result ≡ segment_of (row rows c.search.i-iterator.count) = c.segment-l.ensures ∙ ap segment_of (sym here.is) in
+    let inner = c.loop-g.invariant in
+    let end = past rows inner.0 (sym inner.2 ∙ c.in-None-g.ensures.steps.0) in (
+      sym here.rest ∙ ap (λ n. drop n rows) (sym s.2),
+      inner.3,
+      λ k l. all_more (ClearOfLater rows) c.search.i-iterator.count c.search.invariant.2 (λ j lo hi e. ap (λ m. improper m (segment_of (row rows j))) (sym at) ∙ inner.4 j (omega (arith, s.1)) (omega arith) e) k (rw s.2 at l),
     )
+
+pub returns-in-None : goal.returns-in-None
+returns-in-None g c =
+    let rows = g.S.Source.rows c.args.s.now in
+    c.search.invariant.1 ∙ meetings_none rows c.requires.fits c.requires.twins c.search.i-iterator.count (past rows c.search.i-iterator.count (sym c.search.invariant.0 ∙ c.in-None.ensures.steps.0.0)) c.search.invariant.2
 
 pub search-preserved : goal.search-preserved
 search-preserved g c =
-    let rows = g.S.Source.rows c.args.s.now in (
-      c.loop-j.invariant.0,
-      all_more (ClearOfLater rows) c.search.i c.search.invariant.1
-          (elim c.loop-j-test.branch [
-            | else-loop-j-test w ↦ λ j lo hi. c.loop-j.invariant.1 j lo (omega (arith, w.loop-j-test))
-            | then-loop-j-test+in-Ok-row+then-g-l w ↦ λ j lo hi. ⊎_elim (λ below. c.loop-j.invariant.1 j lo below)
-                (λ later. clear_rest rows c.requires.0 c.requires.1.1 c.search.i c.loop-j.j _ w.in-Ok-row.g c.segment-l.result (omega arith) c.requires.1.0 c.in-Ok.ensures w.in-Ok-row.ensures c.segment-l.ensures (further c.segment-l.result.high.x w.in-Ok-row.g.dominating.x (search rules) (search rules) w.if-g-l.true) j later hi)
-                (cases_lt j c.loop-j.j)
-          ]),
+    let rows = g.S.Source.rows c.args.s.now in
+    let s = c.in-Some.ensures.steps in
+    let i = c.search.i-iterator.count in
+    let inner = c.loop-g.invariant in
+    let here = front rows i c.in-Some.h _ (sym c.search.invariant.0 ∙ s.0) in
+    let later = front rows inner.0 c.in-Some-g.g _ (sym inner.2 ∙ c.in-Some-g.ensures.steps) in
+    let at : c.segment-l.result ≡ segment_of (row rows i) = c.segment-l.ensures ∙ ap segment_of (sym here.is) in (
+      sym here.rest ∙ ap (λ n. drop n rows) (sym s.2),
+      inner.3,
+      λ k l. all_more (ClearOfLater rows) i c.search.invariant.2
+          (λ j lo hi. ⊎_elim (λ below e. ap (λ m. improper m (segment_of (row rows j))) (sym at) ∙ inner.4 j (omega (arith, s.1)) below e)
+          (λ beyond. clear_rest rows c.requires.fits c.requires.twins i inner.0 c.in-Some.h c.in-Some-g.g c.segment-l.result here.within c.requires.rising here.is later.is c.segment-l.ensures (further c.segment-l.result.high.x c.in-Some-g.g.dominating.x (search rules) (search rules) c.if-g-l.true) j beyond hi)
+          (cases_lt j inner.0))
+          k (rw s.2 at l),
     )
 
-pub returns-after-search : goal.returns-after-search
-returns-after-search g c =
+pub loop-g-preserved : goal.loop-g-preserved
+loop-g-preserved g c =
     let rows = g.S.Source.rows c.args.s.now in
-    c.search.invariant.0 ∙ meetings_none rows c.requires.0 c.requires.1.1 c.search.i (omega arith) c.search.invariant.1
-
-pub returns-in_default : goal.returns-in_default
-returns-in_default g c = absurd (omega (arith, row_at_past (g.S.Source.rows c.args.s.now) c.search.i _ c.in_default.ensures))
-
-pub returns-in_default-row : goal.returns-in_default-row
-returns-in_default-row g c = absurd (omega (arith, row_at_past (g.S.Source.rows c.args.s.now) c.loop-j.j _ c.in_default-row.ensures))
+    let s = c.in-Some.ensures.steps in
+    let i = c.search.i-iterator.count in
+    let inner = c.loop-g.invariant in
+    let here = front rows i c.in-Some.h _ (sym c.search.invariant.0 ∙ s.0) in
+    let later = front rows inner.0 c.in-Some-g.g _ (sym inner.2 ∙ c.in-Some-g.ensures.steps) in
+    let at : c.segment-l.result ≡ segment_of (row rows i) = c.segment-l.ensures ∙ ap segment_of (sym here.is) in (
+      inner.0 + 1,
+      omega arith,
+      sym later.rest,
+      inner.3,
+      clear_more (λ j. left (row rows j) ≡ true → improper c.segment-l.result (segment_of (row rows j)) ≡ false) c.in-Some.i inner.0 inner.4
+          (elim c.else-is_left.branch [
+            | else-is_left-via-then-is_left+else-meet_improperly w ↦ λ _. ap (λ m. improper m (segment_of (row rows inner.0))) at ∙ met rows c.requires.fits c.requires.twins i inner.0 c.in-Some.h c.in-Some-g.g c.segment-l.result w.segment.result w.meet_improperly.result here.within later.within here.is later.is c.segment-l.ensures w.segment.ensures w.meet_improperly.ensures.signs ∙ w.if-meet_improperly.false
+            | else-is_left-via-else-is_left w ↦ λ e. absurd (apart e (ap left later.is ∙ sym c.is_left.ensures ∙ w.if-is_left.false))
+          ]),
+    )
 
 pub returns-then-meet_improperly : goal.returns-then-meet_improperly
 returns-then-meet_improperly g c =
     let rows = g.S.Source.rows c.args.s.now in
-    meetings_found rows c.requires.0 c.requires.1.1 c.search.i c.loop-j.j (omega arith) (omega arith)
-    (met rows c.requires.0 c.requires.1.1 c.search.i c.loop-j.j _ _ c.segment-l.result c.segment.result c.meet_improperly.result (omega arith) (omega arith) c.in-Ok.ensures c.in-Ok-row.ensures c.segment-l.ensures c.segment.ensures c.meet_improperly.ensures.signs ∙ c.if-meet_improperly.true)
-    c.search.invariant.1
+    let s = c.in-Some.ensures.steps in
+    let i = c.search.i-iterator.count in
+    let inner = c.loop-g.invariant in
+    let here = front rows i c.in-Some.h _ (sym c.search.invariant.0 ∙ s.0) in
+    let later = front rows inner.0 c.in-Some-g.g _ (sym inner.2 ∙ c.in-Some-g.ensures.steps) in
+    ap (λ n. Err (Improper n)) s.1
+    ∙ meetings_found rows c.requires.fits c.requires.twins i inner.0 here.within later.within
+    (met rows c.requires.fits c.requires.twins i inner.0 c.in-Some.h c.in-Some-g.g c.segment-l.result c.segment.result c.meet_improperly.result here.within later.within here.is later.is c.segment-l.ensures c.segment.ensures c.meet_improperly.ensures.signs ∙ c.if-meet_improperly.true)
+    c.search.invariant.2

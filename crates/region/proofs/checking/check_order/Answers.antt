@@ -1,32 +1,20 @@
-use Rattle.std.proofs.Common.{◌-◌, not, length, ap, ◌∙◌, arith}
-use Rattle.storage.proofs.RowLists.{row_at_past}
-use Rattle.region.specs.declared.refusals.CheckRefusal.TheVariants.{Unsorted}
-use Rattle.region.specs.Check.{misplaced}
-use Rattle.region.proofs.Passes.{more, refused_none, refused_found, neighbours, first_misplaced}
+use Rattle.std.proofs.Common.{drop, not, ◌&&◌, refl, rules, tests}
+use Rattle.std.specs.List.{between}
+use Rattle.std.proofs.lemmas.Iterator.{YieldsList-from_zip}
+use Rattle.std.proofs.lemmas.Iterator.Consumers.{YieldsList-from_first, YieldsList-at}
+use Rattle.std.proofs.lemmas.Iterator.Search.{position_from_yields_List}
+use Rattle.plane.specs.Rows.{comes_before, fit}
+use Rattle.plane.specs.RowLaws.{row_before}
+use Rattle.region.proofs.Passes.{order_is}
 use Rattle.region.proofs.checking.check_order.Goals as goal
-
-pub loop-i-init : goal.loop-i-init
-loop-i-init g c = first_misplaced (g.S.Source.rows c.args.s.now)
-
-pub returns-in_default : goal.returns-in_default
-returns-in_default g c = absurd (omega (arith, row_at_past (g.S.Source.rows c.args.s.now) (c.loop-i.i - 1) _ c.in_default.ensures))
-
-pub returns-in_default-row : goal.returns-in_default-row
-returns-in_default-row g c = absurd (omega (arith, row_at_past (g.S.Source.rows c.args.s.now) c.loop-i.i _ c.in_default-row.ensures))
-
-pub returns-then-not-comes_before : goal.returns-then-not-comes_before
-returns-then-not-comes_before g c =
-    let rows = g.S.Source.rows c.args.s.now in
-    refused_found (misplaced rows) Unsorted (length rows) c.loop-i.i (omega arith)
-    (neighbours rows c.requires c.loop-i.i _ _ c.comes_before.result (omega arith) (omega arith) c.in-Ok.ensures c.in-Ok-row.ensures c.comes_before.ensures ∙ ap not c.if-not-comes_before.true) c.loop-i.invariant
-
-pub loop-i-preserved : goal.loop-i-preserved
-loop-i-preserved g c =
-    let rows = g.S.Source.rows c.args.s.now in
-    more (misplaced rows) c.loop-i.i c.loop-i.invariant
-    (neighbours rows c.requires c.loop-i.i _ _ c.comes_before.result (omega arith) (omega arith) c.in-Ok.ensures c.in-Ok-row.ensures c.comes_before.ensures ∙ ap not c.if-not-comes_before.false)
 
 pub returns : goal.returns
 returns g c =
     let rows = g.S.Source.rows c.args.s.now in
-    refused_none (misplaced rows) Unsorted (length rows) c.loop-i.i (omega arith) c.loop-i.invariant
+    order_is rows c.requires (λ p. not (fit p.0 && (fit p.1 && comes_before p.0 p.1))) (λ p. refl) c.position.result c.map_or.result
+    (position_from_yields_List (λ p. not (fit p.0 && (fit p.1 && comes_before p.0 p.1))) c.position.new.self _ _ c.position.ensures.ran
+    (YieldsList-from_zip
+    (YieldsList-at c.zip-neighbours.ensures.first (YieldsList-from_first (λ x. x) (λ s. between s.places.start s.places.end (g.S.Source.rows s.source.now)) rows c.from_place.ensures.rows))
+    (YieldsList-at c.zip-neighbours.ensures.second (YieldsList-from_first (λ x. x) (λ s. between s.places.start s.places.end (g.S.Source.rows s.source.now)) (drop 1 rows) c.from_place-2.ensures.rows)))
+    (λ x b q k. search (rules, tests, row_before)))
+    (search rules)

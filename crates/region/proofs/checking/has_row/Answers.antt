@@ -1,20 +1,15 @@
-use Rattle.std.proofs.Common.{sym, ap, ◌∙◌, arith}
+use Rattle.std.proofs.Common.{◌∙◌, rules, tests}
+use Rattle.std.specs.List.{between}
+use Rattle.std.proofs.lemmas.Iterator.Consumers.{YieldsList-from_first}
+use Rattle.std.proofs.lemmas.Iterator.Search.{any_from_yields_List}
 use Rattle.plane.specs.Rows.{same_row}
-use Rattle.storage.proofs.RowLists.{row_at_past}
-use Rattle.region.specs.Check.{row}
-use Rattle.region.proofs.Passes.{read, more, stands_none, stands_at}
+use Rattle.plane.specs.RowLaws.{equal_rows}
+use Rattle.region.proofs.Passes.{any_is}
 use Rattle.region.proofs.checking.has_row.Goals as goal
 
-pub returns-in_default : goal.returns-in_default
-returns-in_default g c = absurd (omega (arith, row_at_past (g.S.Source.rows c.args.s.now) c.loop-i.i _ c.in_default.ensures))
-
-pub returns-then-coincides : goal.returns-then-coincides
-returns-then-coincides g c = stands_at (g.S.Source.rows c.args.s.now) c.args.h _ c.loop-i.i (omega arith) c.in-Ok.ensures (sym c.coincides.ensures ∙ c.if-coincides.true)
-
-pub loop-i-preserved : goal.loop-i-preserved
-loop-i-preserved g c =
-    let rows = g.S.Source.rows c.args.s.now in
-    more (λ k. same_row (row rows k) c.args.h) c.loop-i.i c.loop-i.invariant (ap (λ x. same_row x c.args.h) (read rows c.loop-i.i _ c.in-Ok.ensures) ∙ sym c.coincides.ensures ∙ c.if-coincides.false)
-
 pub returns : goal.returns
-returns g c = stands_none (g.S.Source.rows c.args.s.now) c.args.h c.loop-i.i (omega arith) c.loop-i.invariant
+returns g c =
+    any_from_yields_List (λ r. same_row r c.args.h) c.any.new.self _ _ c.any.ensures.ran
+    (YieldsList-from_first (λ x. x) (λ s. between s.places.start s.places.end (g.S.Source.rows s.source.now)) _ c.of.ensures.rows)
+    (λ x b q k. search (rules, tests, equal_rows))
+    ∙ any_is (λ r. same_row r c.args.h) (g.S.Source.rows c.args.s.now)

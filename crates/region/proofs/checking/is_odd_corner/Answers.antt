@@ -1,24 +1,19 @@
-use Rattle.std.proofs.Common.{sym, ap, ◌∙◌, arith}
-use Rattle.std.proofs.lemmas.List.{take_all}
+use Rattle.std.proofs.Common.{sym, ap, ◌∙◌, rules, tests}
+use Rattle.std.specs.List.{between}
+use Rattle.std.proofs.lemmas.Iterator.Consumers.{YieldsList-from_first, YieldsList-from_filter, YieldsList-at, count_from_yields_List}
+use Rattle.std.proofs.lemmas.List.Sums.{length-filter}
 use Rattle.algebra.specs.Parity.{odd}
-use Rattle.storage.proofs.RowLists.{row_at_past}
-use Rattle.region.specs.Plans.{degree}
-use Rattle.region.proofs.Passes.{odd_hit, odd_missed}
+use Rattle.plane.specs.Points.{same_point}
+use Rattle.region.proofs.Passes.{times_is}
 use Rattle.region.proofs.checking.is_odd_corner.Goals as goal
-use Rattle.region.proofs.checking.is_odd_corner.Goals.{then-coincides, else-coincides}
-
-pub returns-in_default : goal.returns-in_default
-returns-in_default g c = absurd (omega (arith, row_at_past (g.S.Source.rows c.args.s.now) c.loop-i.i _ c.in_default.ensures))
-
-pub loop-i-preserved : goal.loop-i-preserved
-loop-i-preserved g c =
-    let rows = g.S.Source.rows c.args.s.now in
-    elim c.if-coincides.branch [
-      | then-coincides w ↦ w.is_odd-is ∙ odd_hit rows c.args.v c.loop-i.i _ c.loop-i.is_odd (omega arith) c.in-Ok.ensures (sym c.coincides.ensures ∙ w.if-coincides.true) c.loop-i.invariant
-      | else-coincides w ↦ w.is_odd-is ∙ odd_missed rows c.args.v c.loop-i.i _ c.loop-i.is_odd (omega arith) c.in-Ok.ensures (sym c.coincides.ensures ∙ w.if-coincides.false) c.loop-i.invariant
-    ]
 
 pub returns : goal.returns
 returns g c =
     let rows = g.S.Source.rows c.args.s.now in
-    c.loop-i.invariant ∙ ap (λ l. odd (degree l c.args.v)) (take_all c.loop-i.i rows (omega arith))
+    ap odd
+    (count_from_yields_List c.filter.result c.count.result c.count.ensures.ran
+    (YieldsList-from_filter _ (λ h. same_point h.dominating c.args.v)
+    (YieldsList-at c.filter.ensures.source (YieldsList-from_first (λ x. x) (λ s. between s.places.start s.places.end (g.S.Source.rows s.source.now)) rows c.of.ensures.rows))
+    c.filter.ensures.closure (λ x b q k. search (rules, tests)))
+    ∙ length-filter (λ h. same_point h.dominating c.args.v) rows
+    ∙ sym (times_is (λ h. same_point h.dominating c.args.v) rows))

@@ -10,7 +10,7 @@ use Rattle.algebra.proofs.Members.{Case, case, holds, fails, apart}
 use Rattle.plane.specs.declared.halfsegment.Halfsegment.{Halfsegment}
 use Rattle.plane.specs.Points.{eq_int, same_point, precedes, orientation}
 use Rattle.plane.specs.Rows.{left, reach, swept_first, earlier, comes_before, Long, RowOrder}
-use Rattle.plane.proofs.Points.{Before, Lex, first, last, one, lex, points_equal, same_point_is, same_point_holds, before_of, of_before, precedes_self, precedes_transitive}
+use Rattle.plane.specs.PointLaws.{Before, Lex, first, last, one, lex, points_equal, same_point_is, same_point_holds, before_of, of_before, precedes_self, precedes_transitive}
 
 -- vectors (x, y): the cross product, the square of the length, and a linear function; each as an expression too
 abbrev cross : ℤ → ℤ → ℤ → ℤ → ℤ
@@ -232,20 +232,31 @@ earlier_either true false gh hg f = inr refl
 earlier_either false true gh hg f = inl refl
 earlier_either false false gh hg f = f refl
 
+-- of one dominating point and one vector: one halfsegment
+one_of : (g h : Halfsegment) → g.dominating ≡ h.dominating → (across g ≡ across h) × (rise g ≡ rise h) → g ≡ h
+one_of g h u v =
+    let x : g.far.x ≡ h.far.x = omega (arith, lin, ap (λ p. p.x) u, v.0) in
+    let y : g.far.y ≡ h.far.y = omega (arith, lin, ap (λ p. p.y) u, v.1) in
+    λ i. record { dominating = u i; far = points_equal g.far h.far x y i }
+
+pub one_row : (g h : Halfsegment) → Long g → Long h → g.dominating ≡ h.dominating → left g ≡ left h → orientation g.far h.far g.dominating ≡ pos 0 → reach g ≡ reach h → g ≡ h
+one_row g h lg lh u e c r =
+    one_of g h u (one_vector (across g) (rise g) (across h) (rise h) (alike g h h lg lh lh e refl) (sym (orientation_is g h u) ∙ c) r)
+
 earlier_comparable : (g h : Halfsegment) → Long g → Long h → ¬ (g ≡ h) → g.dominating ≡ h.dominating → (earlier g h ≡ true) ⊎ (earlier h g ≡ true)
 earlier_comparable g h lg lh n u =
     earlier_either (left g) (left h) (swept_first g h) (swept_first h g) (λ e. go (swept_comparable (across g) (rise g) (across h) (rise h) (alike g h h lg lh lh e refl)))
   where
     go : ((across g ≡ across h) × (rise g ≡ rise h)) ⊎ (Sweeps g h ⊎ Sweeps h g) → (swept_first g h ≡ true) ⊎ (swept_first h g ≡ true)
-    go (inl (e, f)) =
-        let x : g.far.x ≡ h.far.x = omega (arith, lin, ap (λ v. v.x) u) in
-        let y : g.far.y ≡ h.far.y = omega (arith, lin, ap (λ v. v.y) u) in
-        absurd (n (λ i. record { dominating = u i; far = points_equal g.far h.far x y i }))
+    go (inl v) = absurd (n (one_of g h u v))
     go (inr (inl s)) = inl (sweeps_back g h u s)
     go (inr (inr s)) = inr (sweeps_back h g (sym u) s)
 
+pub no_turn : (h : Halfsegment) → orientation h.far h.far h.dominating ≡ pos 0
+no_turn h = ring (across h ∷ rise h ∷ []) (cross_e (var 0) (var 1) (var 0) (var 1)) nought refl
+
 earlier_self : (h : Halfsegment) → earlier h h ≡ false
-earlier_self h = go (left h) (swept_first h h) (still (orientation h.far h.far h.dominating) (reach h) (ring (across h ∷ rise h ∷ []) (cross_e (var 0) (var 1) (var 0) (var 1)) nought refl))
+earlier_self h = go (left h) (swept_first h h) (still (orientation h.far h.far h.dominating) (reach h) (no_turn h))
   where
     still : (c a : ℤ) → c ≡ pos 0 → (lt_z (pos 0) c || (eq_int c (pos 0) && lt_z a a)) ≡ false
     still c a e = grind (arith, lin)

@@ -1,8 +1,10 @@
--- Points: `same_point` and `precedes` as propositions and back, and `precedes` as a strict total order (`precedes_transitive`, `precedes_comparable`); `lex` compares two points.
+-- Points: `same_point` and `precedes` as propositions and back, and `precedes` as a strict total order (`precedes_transitive`, `precedes_comparable`); `lex` compares two points. `==` says `same_point` (`equal_points`).
 use Rattle.std.proofs.Common.{◌≡◌, true, false, ◌⊎◌, ℤ, ◌≤ℤ◌, ◌<ℤ◌, Decides, ap, inl, inr, arith}
 use Rattle.std.proofs.lemmas.Bool.{and_parts, and_from}
+use Rattle.std.proofs.lemmas.Int.{ints}
 use Rattle.algebra.proofs.Signs.{lin, order}
 use Rattle.plane.specs.declared.point.Point.{Point}
+use Rattle.plane.specs.contracts.point.PointPartialEq.TheImpl as equality
 use Rattle.plane.specs.Points.{eq_int, same_point, precedes}
 
 -- equal numbers
@@ -100,3 +102,7 @@ precedes_comparable p q n = go (lex p q)
     go (first h) = inl (of_before p q h)
     go (one e) = absurd (n e)
     go (last h) = inr (of_before q p h)
+
+-- `==`, which is derived
+pub equal_points : (p q : Point) → equality.ghosts.eq p q ≡ same_point p q
+equal_points p q = grind (arith, ints)
