@@ -26,7 +26,7 @@ impl FieldFault {
 }
 
 /// What is wrong in a plan: a field of it, by its place, or its rows.
-#[derive(Clone, Copy, PartialEq, Eq)]
+#[derive(Clone, Copy, Debug, PartialEq, Eq)]
 pub enum PlanFault {
     InField(usize, FieldFault),
     InRows(CheckRefusal),
@@ -52,7 +52,7 @@ impl From<CheckRefusal> for PlanFault {
 }
 
 /// What is wrong with an archive: a field outside the plans, by its place, or a plan, by the place of its field and its number from 1.
-#[derive(Clone, Copy, PartialEq, Eq)]
+#[derive(Clone, Copy, Debug, PartialEq, Eq)]
 pub enum ArchiveFault {
     AtField(usize, FieldFault),
     InPlan(usize, usize, PlanFault),
