@@ -63,8 +63,11 @@ abbrev pub encoded : Archive → List ℕ
 encoded a = date_field a.date ++ (plan_fields a.plans ++ last_field (length a.plans))
 
 -- a title: at most 40 bytes from 20 to 7E in hexadecimal
+abbrev pub is_printable : ℕ → Bool
+is_printable b = nat_le 32 b && nat_le b 126
+
 abbrev pub printable : List ℕ → Bool
-printable bs = list_all (λ b. nat_le 32 b && nat_le b 126) bs
+printable bs = list_all is_printable bs
 
 abbrev pub valid_title : List ℕ → Bool
 valid_title title = nat_le (length title) 40 && printable title
