@@ -1,9 +1,10 @@
 pub mod Patches
-pub mod Titles
 pub mod Adding
 pub mod Chains
 pub mod Framing
+pub mod DueTags
 pub mod PlanPlaces
+pub mod Mapped
 pub mod FieldContents
 pub mod PlanReads
 pub mod NextReads

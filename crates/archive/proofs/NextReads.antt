@@ -1,43 +1,57 @@
 -- The field that follows the date or a plan, `field_read`, and the ways through it: `plan_fault`, `plan_read`, `last_fault`, `last_over` and `last_read`.
-use Rattle.std.proofs.Common.{◌≡◌, ℕ, suc, ◌+◌, ◌-◌, ◌<◌, ◌≤◌, min, Bool, cond, eqb, List, length, Some, None, Ok, Err, Option, Result, sym, ap, ◌∙◌, subst, add-one, arith, Bor}
+use Rattle.std.proofs.Common.{[], ◌∷◌, ◌≡◌, ℕ, suc, ◌+◌, ◌-◌, ◌<◌, ◌≤◌, min, Bool, true, false, cond, eqb, List, length, Some, None, Ok, Err, Option, Result, sym, refl, ap, ◌∙◌, subst, add-one, arith, Bor}
 use Rattle.std.specs.List.{between}
-use Rattle.std.specs.Prelude.{◌==◌}
+use Rattle.std.specs.Prelude.{◌==◌, ◌||◌, nat_le}
 use Rattle.std.proofs.lemmas.Bool.{eq-eqb, ne_eqb, cond-true, cond-false}
 use Rattle.encoding.specs.declared.faults.FieldFault.{FieldFault}
-use Rattle.encoding.specs.declared.faults.FieldFault.TheVariants.{Malformed}
+use Rattle.encoding.specs.declared.faults.FieldFault.TheVariants.{NoFit, Malformed}
 use Rattle.encoding.specs.declared.faults.PlanFault.{PlanFault}
 use Rattle.encoding.specs.declared.faults.ArchiveFault.{ArchiveFault}
 use Rattle.encoding.specs.declared.faults.ArchiveFault.TheVariants.{AtField, InPlan}
 use Rattle.encoding.specs.Format.{Plan, plan_tag, last_tag}
 use Rattle.encoding.specs.Read.{tag_of, size_of, content_of, beyond, framed, and_then, at_field, in_plan, plan_in, count_in, last_in, next_in}
-use Rattle.encoding.proofs.Unframed.{err_ok, at_field_ok}
+use Rattle.encoding.proofs.Unframed.{err_ok, map_fault_ok}
 use Rattle.archive.specs.declared.spans.Span.{Span}
 use Rattle.archive.specs.declared.fields.Field.{Field}
 use Rattle.archive.specs.declared.fields.Field.TheVariants as field
 use Rattle.archive.specs.declared.plans.ArchivedPlan.{ArchivedPlan}
-use Rattle.archive.specs.declared.fields.Due.TheVariants.{PlanOrLast}
+use Rattle.archive.specs.declared.fields.Tag.{Tag}
+use Rattle.archive.specs.declared.fields.Tag.TheVariants as tag
 use Rattle.archive.specs.Fields.{due_tag, field_tag, part_of, left, seen_plan, plan_seen, FieldRead, passed}
 use Rattle.archive.proofs.Framing.{length_due}
 use Rattle.archive.proofs.FieldContents.{framed_fits, content_at, got}
 use Rattle.archive.proofs.PlanReads.{left_past}
 
+-- the tags that may come after the date and after a plan
+abbrev pub plan_or_last : List Tag
+plan_or_last = tag.Plan ∷ tag.Last ∷ []
+
 -- a field that was read, and the span behind it
-pub field_read : (b : Bor (List ℕ)) (s t : Span) (place : ℕ) (r : Result Field FieldFault) (w : Result Field ArchiveFault) (f : Field) → FieldRead PlanOrLast b s r → t ≡ passed b.now s r → w ≡ at_field place r → w ≡ Ok f → FieldRead PlanOrLast b s (Ok f) × (t ≡ passed b.now s (Ok f))
+pub field_read : (b : Bor (List ℕ)) (s t : Span) (place : ℕ) (r : Result Field FieldFault) (w : Result Field ArchiveFault) (f : Field) → FieldRead plan_or_last b s r → t ≡ passed b.now s r → w ≡ at_field place r → w ≡ Ok f → FieldRead plan_or_last b s (Ok f) × (t ≡ passed b.now s (Ok f))
 field_read b s t place r w f read on told ok =
-    let e = at_field_ok place r f (sym told ∙ ok) in
-    (subst (FieldRead PlanOrLast b s) e read, on ∙ ap (passed b.now s) e)
+    let e = map_fault_ok (AtField place) r f (sym told ∙ ok) in
+    (subst (FieldRead plan_or_last b s) e read, on ∙ ap (passed b.now s) e)
 
 -- a plan's field that was read
-pub plan_tagged : (b : Bor (List ℕ)) (s : Span) (f : Field) (content : Bor (List ℕ)) → FieldRead PlanOrLast b s (Ok f) → f ≡ field.Plan content → plan_tag ≡ tag_of (left b.now s)
+pub plan_tagged : (b : Bor (List ℕ)) (s : Span) (f : Field) (content : Bor (List ℕ)) → FieldRead plan_or_last b s (Ok f) → f ≡ field.Plan content → plan_tag ≡ tag_of (left b.now s)
 plan_tagged b s f content read is = sym (ap field_tag is) ∙ read.1
 
 -- the last field that was read: its tag and its content
-pub last_got : (b : Bor (List ℕ)) (s : Span) (f : Field) (content : Bor (List ℕ)) → FieldRead PlanOrLast b s (Ok f) → f ≡ field.Last content → (last_tag ≡ tag_of (left b.now s)) × (content.now ≡ content_of (left b.now s))
+pub last_got : (b : Bor (List ℕ)) (s : Span) (f : Field) (content : Bor (List ℕ)) → FieldRead plan_or_last b s (Ok f) → f ≡ field.Last content → (last_tag ≡ tag_of (left b.now s)) × (content.now ≡ content_of (left b.now s))
 last_got b s f content read is =
-    let g = got b s (due_tag PlanOrLast) f content read (ap part_of is) in
+    let g = got b s (due_tag plan_or_last) f content read (ap part_of is) in
     (sym (ap field_tag is) ∙ read.1, g.content)
 
-module _ (bs : List ℕ) (s : Span) (plans : ℕ) (framed_is : framed (due_tag PlanOrLast) (left bs s) ≡ Ok tt) where
+-- only the tag that stands there is tested
+same_test : (due : List ℕ) (f g : ℕ → Bool) → f (tag_of due) ≡ g (tag_of due) → framed f due ≡ framed g due
+same_test due f g e = ap (λ t. cond (length due == 0) (Err NoFit) (cond t (cond (nat_le (3 + size_of due) (length due)) (Ok tt) (Err NoFit)) (Err Malformed))) e
+
+or_none : (p q : Bool) → (p || q) ≡ (p || (q || false))
+or_none true q = refl
+or_none false true = refl
+or_none false false = refl
+
+module _ (bs : List ℕ) (s : Span) (plans : ℕ) (framed_is : framed (due_tag plan_or_last) (left bs s) ≡ Ok tt) where
   abbrev due : List ℕ
   due = left bs s
 
@@ -49,14 +63,14 @@ module _ (bs : List ℕ) (s : Span) (plans : ℕ) (framed_is : framed (due_tag P
   by_tag b = cond b (by_plan (plan_in (s.at + 3) (content_of due))) (last_in s.at plans due)
 
   after_test : next_in s.at plans due ≡ by_tag (plan_tag == tag_of due)
-  after_test = ap (λ r. and_then (at_field s.at r) (λ _. by_tag (plan_tag == tag_of due))) framed_is
+  after_test = ap (λ r. and_then (at_field s.at r) (λ _. by_tag (plan_tag == tag_of due))) (same_test due (λ tag. (plan_tag == tag) || last_tag == tag) (due_tag plan_or_last) (or_none (plan_tag == tag_of due) (last_tag == tag_of due)) ∙ framed_is)
 
   -- a plan's field: what is read lies between its head and its end
   module _ (is_plan : plan_tag ≡ tag_of due) (to : ℕ) (end_is : to ≡ s.at + (3 + size_of due)) where
     inside : left bs (record { at = s.at + 3; end = to }) ≡ content_of due
     inside =
         let e : to ≡ s.at + 3 + size_of due = omega arith in
-        ap (λ k. between (s.at + 3) k bs) e ∙ content_at bs s.at s.end (size_of due) (framed_fits (due_tag PlanOrLast) due framed_is)
+        ap (λ k. between (s.at + 3) k bs) e ∙ content_at bs s.at s.end (size_of due) (framed_fits (due_tag plan_or_last) due framed_is)
 
     here : next_in s.at plans due ≡ by_plan (plan_in (s.at + 3) (left bs (record { at = s.at + 3; end = to })))
     here = after_test ∙ ap (λ t. by_tag (plan_tag == t)) (sym is_plan) ∙ ap (λ c. by_plan (plan_in (s.at + 3) c)) (sym inside)

@@ -13,17 +13,14 @@ use Rattle.encoding.specs.declared.faults.PlanFault.{PlanFault}
 use Rattle.encoding.specs.declared.faults.PlanFault.TheVariants.{InField, InRows}
 use Rattle.encoding.specs.Format.{Plan, title_tag, rows_tag, valid_title}
 use Rattle.encoding.specs.Read.{size_of, content_of, beyond, framed, and_then, in_field, title_in, rows_in, checked, ended, rows_next, plan_in}
-use Rattle.encoding.proofs.Unframed.{in_field_ok, err_ok, and_then_ok, cond_ok, ok_same}
+use Rattle.encoding.proofs.Unframed.{err_ok, and_then_ok, cond_ok, ok_same}
 use Rattle.archive.specs.declared.spans.Span.{Span}
 use Rattle.archive.specs.declared.views.PlanView.{PlanView}
-use Rattle.archive.specs.Fields.{Part, TitlePart, RowsPart, Parts, left, with_content, Moved, seen, seen_rows}
+use Rattle.archive.specs.Fields.{Part, ContentPart, RowsPart, Parts, left, with_content, Moved, seen, seen_rows}
 use Rattle.archive.proofs.Framing.{length_due}
 use Rattle.archive.proofs.FieldContents.{framed_fits}
 
--- what an answer that was granted says
-pub granted : {A : Type 0} (place : ℕ) (r : Result A FieldFault) (w : Result A PlanFault) (a : A) → w ≡ in_field place r → w ≡ Ok a → r ≡ Ok a
-granted place r w a e f = in_field_ok place r a (sym e ∙ f)
-
+-- what stands behind the references of an answer that was granted
 pub seen_ok : {A E : Type 0} (r : Result (Bor A) E) (p : Bor A) (x : Result A E) → r ≡ Ok p → seen r ≡ x → x ≡ Ok p.now
 seen_ok r p x e f = sym f ∙ ap seen e
 
@@ -52,14 +49,11 @@ module _ (bs : List ℕ) (from to : ℕ) (s0 s1 : Span) (title : List ℕ) (star
       ap (λ r. and_then (in_field from r) (rows_next (from + (3 + size_of (left bs inside))) (beyond (left bs inside)))) (ap (λ s. with_content title_tag title_in (left bs s)) (sym start) ∙ said) ∙
       (λ i. rows_next (ap (λ s. s.at) (sym behind) i) (sym (left_past bs inside s1 behind) i) title)
 
-  seen_fault : (place : ℕ) (r : Result PlanView FieldFault) (e : PlanFault) → in_field place r ≡ Err e → in_field place (seen_rows r) ≡ Err e
-  seen_fault place (Ok v) e h = err_ok e v (sym h)
-  seen_fault place (Err f) e h = let same : InField place f ≡ e = cc in ap Err same
-
   pub rows_fault : (r : Result PlanView FieldFault) (e : PlanFault) → seen_rows r ≡ with_content rows_tag rows_in (left bs s1) → in_field s1.at r ≡ Err e → Err e ≡ plan_in from (left bs inside)
-  rows_fault r e f h =
-      sym (at_rows ∙ ap (λ x. and_then (in_field s1.at x) (λ rows. ended (s1.at + (3 + size_of (left bs s1))) (beyond (left bs s1)) (record { title = title; rows = rows }))) (sym f) ∙
-      ap (λ x. and_then x (λ rows. ended (s1.at + (3 + size_of (left bs s1))) (beyond (left bs s1)) (record { title = title; rows = rows }))) (seen_fault s1.at r e h))
+  rows_fault (Ok v) e f h = err_ok e v (sym h)
+  rows_fault (Err fault) e f h =
+      let same : Err (InField s1.at fault) ≡ Err e = h in
+      sym (at_rows ∙ ap (λ x. and_then (in_field s1.at x) (λ rows. ended (s1.at + (3 + size_of (left bs s1))) (beyond (left bs s1)) (record { title = title; rows = rows }))) (sym f) ∙ ap Err cc)
 
   module _ (rows : List Halfsegment) (s2 : Span) (read : with_content rows_tag rows_in (left bs s1) ≡ Ok rows) (on : s2 ≡ record { at = s1.at + (3 + size_of (left bs s1)); end = s1.end }) (within : to ≤ length bs) where
     abbrev plan : Plan
@@ -95,9 +89,9 @@ title_size due title e =
     let b = cond_ok (valid_title (content_of due)) (Ok (content_of due)) BadTitle title a.2 in
     ap length (sym (ok_same (content_of due) title b.1)) ∙ length-take-le (size_of due) (drop 3 due) (omega (arith, framed_fits (eqb title_tag) due a.1, length-drop 3 due))
 
-pub parts_ok : (b : Bor (List ℕ)) (from : ℕ) (s0 s1 : Span) (tr : Result (Bor (List ℕ)) FieldFault) (rr : Result PlanView FieldFault) (t : Bor (List ℕ)) (v : PlanView) → s0.at ≡ from → with_content title_tag title_in (left b.now s0) ≡ Ok t.now → s1 ≡ record { at = s0.at + (3 + size_of (left b.now s0)); end = s0.end } → tr ≡ Ok t → rr ≡ Ok v → TitlePart b (s0.at + 3) tr → RowsPart b (s1.at + 3) rr → Parts b from (record { title = t; rows = v })
+pub parts_ok : (b : Bor (List ℕ)) (from : ℕ) (s0 s1 : Span) (tr : Result (Bor (List ℕ)) FieldFault) (rr : Result PlanView FieldFault) (t : Bor (List ℕ)) (v : PlanView) → s0.at ≡ from → with_content title_tag title_in (left b.now s0) ≡ Ok t.now → s1 ≡ record { at = s0.at + (3 + size_of (left b.now s0)); end = s0.end } → tr ≡ Ok t → rr ≡ Ok v → ContentPart b (s0.at + 3) tr → RowsPart b (s1.at + 3) rr → Parts b from (record { title = t; rows = v })
 parts_ok b from s0 s1 tr rr t v start said moved ok fine tp rp =
     let n = title_size (left b.now s0) t.now said in
     let place : s1.at ≡ s0.at + (3 + size_of (left b.now s0)) = ap (λ s. s.at) moved in
     let second : s1.at + 3 ≡ from + 6 + length t.now = omega arith in
-    (subst (λ k. Part b (k + 3) (length t.now) t) start (subst (TitlePart b (s0.at + 3)) ok tp), subst (λ k. Part b k (length v.bytes.now) v.bytes) second (subst (RowsPart b (s1.at + 3)) fine rp))
+    (subst (λ k. Part b (k + 3) (length t.now) t) start (subst (ContentPart b (s0.at + 3)) ok tp), subst (λ k. Part b k (length v.bytes.now) v.bytes) second (subst (RowsPart b (s1.at + 3)) fine rp))

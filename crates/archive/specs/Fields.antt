@@ -1,8 +1,9 @@
 -- A field that is read: its tag, and its content as a part of the archive's own bytes.
-use Rattle.std.specs.Prelude.{◌≡◌, ℕ, ◌+◌, ◌≤◌, Bool, ◌||◌, List, length, Ok, Err, Result, ◌==◌, nat_eq}
+use Rattle.std.specs.Prelude.{◌≡◌, ◌≢◌, ℕ, ◌+◌, ◌≤◌, Bool, List, length, Ok, Err, Result, MatchResult, ◌==◌, nat_eq}
 use Rattle.std.specs.Borrow.{Bor}
-use Rattle.std.specs.List.{between}
+use Rattle.std.specs.List.{between, list_any}
 use Rattle.encoding.specs.declared.faults.FieldFault.{FieldFault}
+use Rattle.encoding.specs.declared.faults.FieldFault.TheVariants.{Malformed}
 use Rattle.plane.specs.declared.halfsegment.Halfsegment.{Halfsegment}
 use Rattle.storage.specs.Bytes.{rows_of}
 use Rattle.encoding.specs.Format.{Plan, date_tag, plan_tag, title_tag, rows_tag, last_tag}
@@ -10,17 +11,26 @@ use Rattle.encoding.specs.Read.{tag_of, size_of, content_of, framed, and_then}
 use Rattle.archive.specs.declared.plans.ArchivedPlan.{ArchivedPlan}
 use Rattle.archive.specs.declared.views.PlanView.{PlanView}
 use Rattle.archive.specs.declared.spans.Span.{Span}
-use Rattle.archive.specs.declared.fields.Due.{Due}
-use Rattle.archive.specs.declared.fields.Due.TheVariants as due
+use Rattle.archive.specs.declared.fields.Tag.{Tag}
+use Rattle.archive.specs.declared.fields.Tag.TheVariants as tag
 use Rattle.archive.specs.declared.fields.Field.{Field}
 use Rattle.archive.specs.declared.fields.Field.TheVariants as field
 
--- which tags may come
-abbrev pub due_tag : Due → ℕ → Bool
-due_tag due.Date tag = date_tag == tag
-due_tag due.PlanOrLast tag = plan_tag == tag || last_tag == tag
-due_tag due.Title tag = title_tag == tag
-due_tag due.Rows tag = rows_tag == tag
+-- the byte that a tag is
+abbrev pub tag_number : Tag → ℕ
+tag_number tag.Date = date_tag
+tag_number tag.Plan = plan_tag
+tag_number tag.Title = title_tag
+tag_number tag.Rows = rows_tag
+tag_number tag.Last = last_tag
+
+-- the byte is that tag, or no tag at all
+abbrev pub Decodes : ℕ → Result Tag FieldFault → Type 0
+Decodes byte r = MatchResult r (λ tag. tag_number tag ≡ byte) (λ fault. (fault ≡ Malformed) × ((tag : Tag) → tag_number tag ≢ byte))
+
+-- whether the byte is one of the tags that may come
+abbrev pub due_tag : List Tag → ℕ → Bool
+due_tag due byte = list_any (λ tag. tag_number tag == byte) due
 
 abbrev pub field_tag : Field → ℕ
 field_tag (field.Date part) = date_tag
@@ -47,7 +57,7 @@ pub record Part (b : Bor (List ℕ)) (from n : ℕ) (p : Bor (List ℕ)) : Type 
   pub bytes : p.now ≡ between from (from + n) b.now
   pub fits : from + n ≤ length b.now
 
-abbrev pub FieldRead : Due → Bor (List ℕ) → Span → Result Field FieldFault → Type 0
+abbrev pub FieldRead : List Tag → Bor (List ℕ) → Span → Result Field FieldFault → Type 0
 FieldRead d b s (Ok f) =
     (framed (due_tag d) (left b.now s) ≡ Ok tt) × (field_tag f ≡ tag_of (left b.now s)) × Part b (s.at + 3) (size_of (left b.now s)) (part_of f)
 FieldRead d b s (Err fault) = framed (due_tag d) (left b.now s) ≡ Err fault
@@ -83,9 +93,9 @@ seen_plan (Ok p) = Ok (plan_seen p)
 seen_plan (Err fault) = Err fault
 
 -- the title and the rows are parts of the archive's own bytes, behind the heads of their fields
-abbrev pub TitlePart : {E : Type 0} → Bor (List ℕ) → ℕ → Result (Bor (List ℕ)) E → Type 0
-TitlePart b from (Ok p) = Part b from (length p.now) p
-TitlePart b from (Err fault) = Unit {0}
+abbrev pub ContentPart : {E : Type 0} → Bor (List ℕ) → ℕ → Result (Bor (List ℕ)) E → Type 0
+ContentPart b from (Ok p) = Part b from (length p.now) p
+ContentPart b from (Err fault) = Unit {0}
 
 abbrev pub RowsPart : {E : Type 0} → Bor (List ℕ) → ℕ → Result PlanView E → Type 0
 RowsPart b from (Ok view) = Part b from (length view.bytes.now) view.bytes

@@ -1,53 +1,33 @@
 //! Reading an archive: its date, then plan after plan, up to the last field.
 ghost use Rattle.std.specs.Prelude.{◌≡◌, ℕ, ◌+◌, ◌≤◌, length};
 ghost use Rattle.encoding.specs.Format.{date_tag};
-ghost use Rattle.encoding.specs.Read.{at_field, count_in, date_in, in_plan, next_in, read_of};
+ghost use Rattle.encoding.specs.Read.{count_in, date_in, next_in, read_of};
 ghost use Rattle.archive.specs.Fields.{left, Moved, with_content};
 ghost use Rattle.archive.specs.Decoding.{Accepted, NextMoved, NextParts, Opened, seen_next, stepped, summed, told};
 
-use crate::fields::{Due, Field, read_field};
-use crate::plans::{ArchivedPlan, read_plan};
+use crate::fields::{Field, HEAD, Tag};
+use crate::plans::ArchivedPlan;
 use crate::spans::Span;
-use encoding::{ArchiveFault, Date, FieldFault, PlanFault};
+use encoding::{ArchiveFault, Date, FieldFault};
 
 /// What an archive holds: its date, and how many plans.
-#[derive(Clone, Copy, PartialEq, Eq)]
+#[derive(Clone, Copy, Debug, PartialEq, Eq)]
 pub struct Contents {
     pub date: Date,
     pub plans: usize,
-}
-
-/// Adds the place of the field to its fault.
-fn at_field<T>(place: usize, answer: Result<T, FieldFault>) -> Result<T, ArchiveFault>
-    ensures { result ≡ at_field place answer }
-{
-    match answer {
-        Ok(x) => Ok(x),
-        Err(fault) => Err(ArchiveFault::AtField(place, fault)),
-    }
-}
-
-/// Adds the place of the plan's field and the plan's number to its fault.
-fn in_plan<T>(place: usize, plan: usize, answer: Result<T, PlanFault>) -> Result<T, ArchiveFault>
-    ensures { result ≡ in_plan place plan answer }
-{
-    match answer {
-        Ok(x) => Ok(x),
-        Err(fault) => Err(ArchiveFault::InPlan(place, plan, fault)),
-    }
 }
 
 /// The date that the content of its field tells.
 fn date_in(content: &[u8]) -> Result<Date, FieldFault>
     ensures { result ≡ date_in content.now }
 {
-    if content.len() != 4 {
+    let &[high, low, month, day] = content else {
         return Err(FieldFault::Malformed);
-    }
+    };
     let date = Date {
-        year: content[0] as u16 * 256 + content[1] as u16,
-        month: content[2],
-        day: content[3],
+        year: u16::from_be_bytes([high, low]),
+        month,
+        day,
     };
     if !date.is_valid() {
         return Err(FieldFault::NoSuchDate);
@@ -59,53 +39,57 @@ fn date_in(content: &[u8]) -> Result<Date, FieldFault>
 fn count_in(plans: usize, content: &[u8]) -> Result<(), FieldFault>
     ensures { result ≡ count_in plans content.now }
 {
-    if content.len() != 2 {
+    let &[high, low] = content else {
         return Err(FieldFault::Malformed);
-    }
-    if content[0] as usize * 256 + content[1] as usize != plans {
+    };
+    if usize::from(u16::from_be_bytes([high, low])) != plans {
         return Err(FieldFault::Malformed);
     }
     Ok(())
 }
 
-/// The date, whose field is due.
-fn read_date(bytes: &[u8], span: &mut Span) -> Result<Date, FieldFault>
-    ensures value { result ≡ with_content date_tag date_in (left bytes.now span.old) }
-    ensures moved { Moved bytes.now span.old span.new result }
-{
-    let Field::Date(content) = read_field(bytes, span, Due::Date)? else {
-        unreachable()
-    };
-    date_in(content)
-}
+impl Span {
+    /// The date, whose field is due.
+    fn read_date(&mut self, bytes: &[u8]) -> Result<Date, FieldFault>
+        ensures value { result ≡ with_content date_tag date_in (left bytes.now self.old) }
+        ensures moved { Moved bytes.now self.old self.new result }
+    {
+        date_in(self.read_content(bytes, Tag::Date)?)
+    }
 
-/// The next plan, or none where the last field comes, after that many plans.
-fn read_next<'a>(
-    bytes: &'a [u8],
-    span: &mut Span,
-    plans: usize,
-) -> Result<Option<ArchivedPlan<'a>>, ArchiveFault>
-    requires { plans ≤ span.old.at }
-    ensures value { seen_next result ≡ next_in span.old.at plans (left bytes.now span.old) }
-    ensures parts { NextParts bytes.entry (span.old.at + 3) result }
-    ensures moved { NextMoved bytes.now span.old span.new result }
-{
-    let place = span.at;
-    match at_field(place, read_field(bytes, span, Due::PlanOrLast))? {
-        Field::Plan(_) => {
-            let behind = span.at;
-            let plan = in_plan(place, plans + 1, read_plan(bytes, span, place + 3, behind))?;
-            span.at = behind;
-            Ok(Some(plan))
-        }
-        Field::Last(content) => {
-            at_field(place, count_in(plans, content))?;
-            if span.at < span.end.min(bytes.len()) {
-                return Err(ArchiveFault::AtField(span.at, FieldFault::Malformed));
+    /// The next plan, or none where the last field comes, after that many plans.
+    fn read_next<'a>(
+        &mut self,
+        bytes: &'a [u8],
+        plans: usize,
+    ) -> Result<Option<ArchivedPlan<'a>>, ArchiveFault>
+        requires { plans ≤ self.old.at }
+        ensures value { seen_next result ≡ next_in self.old.at plans (left bytes.now self.old) }
+        ensures parts { NextParts bytes.entry (self.old.at + 3) result }
+        ensures moved { NextMoved bytes.now self.old self.new result }
+    {
+        let place = self.at;
+        let field = self
+            .read_field(bytes, &[Tag::Plan, Tag::Last])
+            .map_err(|fault| ArchiveFault::AtField(place, fault))?;
+        match field {
+            Field::Plan(_) => {
+                let behind = self.at;
+                let plan = self
+                    .read_plan(bytes, place + HEAD, behind)
+                    .map_err(|fault| ArchiveFault::InPlan(place, plans + 1, fault))?;
+                self.at = behind;
+                Ok(Some(plan))
             }
-            Ok(None)
+            Field::Last(content) => {
+                count_in(plans, content).map_err(|fault| ArchiveFault::AtField(place, fault))?;
+                if self.at < self.end.min(bytes.len()) {
+                    return Err(ArchiveFault::AtField(self.at, FieldFault::Malformed));
+                }
+                Ok(None)
+            }
+            _ => unreachable(),
         }
-        _ => unreachable(),
     }
 }
 
@@ -126,7 +110,9 @@ impl<'a> Reader<'a> {
             at: 0,
             end: bytes.len(),
         };
-        let date = at_field(0, read_date(bytes, &mut span))?;
+        let date = span
+            .read_date(bytes)
+            .map_err(|fault| ArchiveFault::AtField(0, fault))?;
         Ok((
             date,
             Reader {
@@ -145,7 +131,7 @@ impl<'a> Reader<'a> {
     {
         let mut span = self.span;
         let plans = self.plans.min(span.at);
-        let next = read_next(self.bytes, &mut span, plans)?;
+        let next = span.read_next(self.bytes, plans)?;
         if next.is_some() {
             self.span = span;
             self.plans = plans + 1;

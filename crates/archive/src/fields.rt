@@ -1,19 +1,40 @@
 //! The fields of an archive, read one by one: each holds its content, a part of the archive's own bytes.
-ghost use Rattle.std.specs.Prelude.{◌≡◌, ℕ, ◌+◌, ◌≤◌, true, length};
-ghost use Rattle.archive.specs.Fields.{due_tag, field_tag, FieldRead, Part, part_of, passed};
+ghost use Rattle.std.specs.Prelude.{◌≡◌, ℕ, ◌+◌, ◌≤◌, Ok, length};
+ghost use Rattle.encoding.specs.Read.{content_of};
+ghost use Rattle.archive.specs.Fields.{ContentPart, Decodes, field_tag, FieldRead, left, Moved, Part, part_of, passed, seen, tag_number, with_content};
 
 use crate::spans::Span;
 use encoding::FieldFault;
 
-pub(crate) const DATE: u8 = 0x01;
+/// How many bytes a field's tag and length take.
+pub(crate) const HEAD: usize = 3;
 
-pub(crate) const PLAN: u8 = 0x20;
+/// What a field is, by its first byte.
+#[derive(Clone, Copy, Debug, PartialEq, Eq)]
+pub(crate) enum Tag {
+    Date = 0x01,
+    Plan = 0x20,
+    Title = 0x21,
+    Rows = 0x22,
+    Last = 0x7F,
+}
 
-pub(crate) const TITLE: u8 = 0x21;
+impl TryFrom<u8> for Tag {
+    type Error = FieldFault;
 
-pub(crate) const ROWS: u8 = 0x22;
+    ghost try_from_gives = { Decodes };
 
-pub(crate) const LAST: u8 = 0x7F;
+    fn try_from(byte: u8) -> Result<Self, FieldFault> {
+        match byte {
+            0x01 => Ok(Tag::Date),
+            0x20 => Ok(Tag::Plan),
+            0x21 => Ok(Tag::Title),
+            0x22 => Ok(Tag::Rows),
+            0x7F => Ok(Tag::Last),
+            _ => Err(FieldFault::Malformed),
+        }
+    }
+}
 
 /// A field by its tag, with its content.
 #[derive(Clone, Copy)]
@@ -25,25 +46,29 @@ pub enum Field<'a> {
     Last(&'a [u8]),
 }
 
-/// Which field has to come.
-#[derive(Clone, Copy)]
-pub(crate) enum Due {
-    Date,
-    PlanOrLast,
-    Title,
-    Rows,
-}
+impl<'a> Field<'a> {
+    fn new(tag: Tag, content: &'a [u8]) -> Field<'a>
+        ensures tag { field_tag result ≡ tag_number tag }
+        ensures part { part_of result ≡ content.entry }
+    {
+        match tag {
+            Tag::Date => Field::Date(content),
+            Tag::Plan => Field::Plan(content),
+            Tag::Title => Field::Title(content),
+            Tag::Rows => Field::Rows(content),
+            Tag::Last => Field::Last(content),
+        }
+    }
 
-impl Due {
-    /// Whether a field with the tag may come.
-    fn admits(self, tag: u8) -> bool
-        ensures { result ≡ due_tag self tag }
+    fn content(self) -> &'a [u8]
+        ensures { result ≡ part_of self.entry }
     {
         match self {
-            Due::Date => tag == DATE,
-            Due::PlanOrLast => tag == PLAN || tag == LAST,
-            Due::Title => tag == TITLE,
-            Due::Rows => tag == ROWS,
+            Field::Date(content)
+            | Field::Plan(content)
+            | Field::Title(content)
+            | Field::Rows(content)
+            | Field::Last(content) => content,
         }
     }
 }
@@ -56,50 +81,47 @@ fn part(bytes: &[u8], from: usize, len: usize) -> &[u8]
     &bytes[from..from + len]
 }
 
-/// The field with a tag that may come, and its content.
-fn field_of<'a>(due: Due, tag: u8, content: &'a [u8]) -> Field<'a>
-    requires { due_tag due tag ≡ true }
-    ensures tag { field_tag result ≡ tag }
-    ensures part { part_of result ≡ content.entry }
-{
-    match due {
-        Due::Date => Field::Date(content),
-        Due::PlanOrLast => if tag == PLAN {
-            Field::Plan(content)
-        } else {
-            Field::Last(content)
-        },
-        Due::Title => Field::Title(content),
-        Due::Rows => Field::Rows(content),
+impl Span {
+    /// Reads the field at the span's place, whose tag has to be one of those that are due, and moves the place behind it. A refusal leaves the span as it was.
+    pub(crate) fn read_field<'a>(
+        &mut self,
+        bytes: &'a [u8],
+        due: &[Tag],
+    ) -> Result<Field<'a>, FieldFault>
+        ensures answer { FieldRead due.now bytes.entry self.old result }
+        ensures span { self.new ≡ passed bytes.now self.old result }
+    {
+        let at = self.at;
+        let end = self.end.min(bytes.len());
+        if at >= end {
+            return Err(FieldFault::NoFit);
+        }
+        let tag = Tag::try_from(bytes[at])?;
+        if !due.contains(&tag) {
+            return Err(FieldFault::Malformed);
+        }
+        if end - at < HEAD {
+            return Err(FieldFault::NoFit);
+        }
+        let len = usize::from(u16::from_be_bytes([bytes[at + 1], bytes[at + 2]]));
+        if end - at - HEAD < len {
+            return Err(FieldFault::NoFit);
+        }
+        let content = part(bytes, at + HEAD, len);
+        self.at = at + HEAD + len;
+        Ok(Field::new(tag, content))
     }
-}
 
-/// Reads the field at the span's place, and moves the place behind it. A refusal leaves the span as it was.
-pub(crate) fn read_field<'a>(
-    bytes: &'a [u8],
-    span: &mut Span,
-    due: Due,
-) -> Result<Field<'a>, FieldFault>
-    ensures answer { FieldRead due bytes.entry span.old result }
-    ensures span { span.new ≡ passed bytes.now span.old result }
-{
-    let at = span.at;
-    let end = span.end.min(bytes.len());
-    if at >= end {
-        return Err(FieldFault::NoFit);
+    /// The content of the field with that tag, which is due.
+    pub(crate) fn read_content<'a>(
+        &mut self,
+        bytes: &'a [u8],
+        tag: Tag,
+    ) -> Result<&'a [u8], FieldFault>
+        ensures value { seen result ≡ with_content (tag_number tag) Ok (left bytes.now self.old) }
+        ensures part { ContentPart bytes.entry (self.old.at + 3) result }
+        ensures moved { Moved bytes.now self.old self.new result }
+    {
+        Ok(self.read_field(bytes, &[tag])?.content())
     }
-    let tag = bytes[at];
-    if !due.admits(tag) {
-        return Err(FieldFault::Malformed);
-    }
-    if end - at < 3 {
-        return Err(FieldFault::NoFit);
-    }
-    let len = bytes[at + 1] as usize * 256 + bytes[at + 2] as usize;
-    if end - at - 3 < len {
-        return Err(FieldFault::NoFit);
-    }
-    let content = part(bytes, at + 3, len);
-    span.at = at + 3 + len;
-    Ok(field_of(due, tag, content))
 }

@@ -1,13 +1,13 @@
 //! The content of a plan's field: a title and rows, handed out as parts of the archive's own bytes.
-ghost use Rattle.std.specs.Prelude.{◌≡◌, ℕ, ◌+◌, ◌≤◌, length, Ok};
+ghost use Rattle.std.specs.Prelude.{◌≡◌, ℕ, ◌+◌, ◌≤◌, length};
 ghost use Rattle.encoding.specs.Format.{rows_tag, title_tag};
-ghost use Rattle.encoding.specs.Read.{date_in, in_field, plan_in, rows_in, title_in};
-ghost use Rattle.archive.specs.Fields.{left, Moved, PlanParts, seen, seen_plan, seen_rows, TitlePart, RowsPart, with_content};
+ghost use Rattle.encoding.specs.Read.{plan_in, rows_in, title_in};
+ghost use Rattle.archive.specs.Fields.{ContentPart, left, Moved, PlanParts, RowsPart, seen, seen_plan, seen_rows, with_content};
 
-use crate::fields::{Due, Field, read_field};
+use crate::fields::Tag;
 use crate::spans::{Inside, Span};
-use crate::views::PlanView;
-use crate::writing::is_title;
+use crate::views::{PlanView, ROW};
+use crate::writing::{MOST_ROWS, is_title};
 use encoding::{FieldFault, PlanFault};
 use region::check;
 
@@ -18,66 +18,60 @@ pub struct ArchivedPlan<'a> {
     pub rows: PlanView<'a>,
 }
 
-/// Adds the place of the field to its fault.
-fn in_field<T>(place: usize, answer: Result<T, FieldFault>) -> Result<T, PlanFault>
-    ensures { result ≡ in_field place answer }
-{
-    match answer {
-        Ok(x) => Ok(x),
-        Err(fault) => Err(PlanFault::InField(place, fault)),
+impl Span {
+    /// The title, whose field is due.
+    fn read_title<'a>(&mut self, bytes: &'a [u8]) -> Result<&'a [u8], FieldFault>
+        ensures value { seen result ≡ with_content title_tag title_in (left bytes.now self.old) }
+        ensures part { ContentPart bytes.entry (self.old.at + 3) result }
+        ensures moved { Moved bytes.now self.old self.new result }
+    {
+        let title = self.read_content(bytes, Tag::Title)?;
+        if !is_title(title) {
+            return Err(FieldFault::BadTitle);
+        }
+        Ok(title)
     }
-}
 
-/// The title, whose field is due.
-fn read_title<'a>(bytes: &'a [u8], span: &mut Span) -> Result<&'a [u8], FieldFault>
-    ensures value { seen result ≡ with_content title_tag title_in (left bytes.now span.old) }
-    ensures part { TitlePart bytes.entry (span.old.at + 3) result }
-    ensures moved { Moved bytes.now span.old span.new result }
-{
-    let Field::Title(title) = read_field(bytes, span, Due::Title)? else {
-        unreachable()
-    };
-    if !is_title(title) {
-        return Err(FieldFault::BadTitle);
+    /// The rows, whose field is due.
+    fn read_rows<'a>(&mut self, bytes: &'a [u8]) -> Result<PlanView<'a>, FieldFault>
+        ensures value { seen_rows result ≡ with_content rows_tag rows_in (left bytes.now self.old) }
+        ensures part { RowsPart bytes.entry (self.old.at + 3) result }
+        ensures moved { Moved bytes.now self.old self.new result }
+    {
+        let rows = self.read_content(bytes, Tag::Rows)?;
+        if rows.len() > ROW * MOST_ROWS || rows.len() % ROW != 0 {
+            return Err(FieldFault::Malformed);
+        }
+        Ok(PlanView::new(rows))
     }
-    Ok(title)
-}
 
-/// The rows, whose field is due: at most 4,000 of them.
-fn read_rows<'a>(bytes: &'a [u8], span: &mut Span) -> Result<PlanView<'a>, FieldFault>
-    ensures value { seen_rows result ≡ with_content rows_tag rows_in (left bytes.now span.old) }
-    ensures part { RowsPart bytes.entry (span.old.at + 3) result }
-    ensures moved { Moved bytes.now span.old span.new result }
-{
-    let Field::Rows(rows) = read_field(bytes, span, Due::Rows)? else {
-        unreachable()
-    };
-    if rows.len() > 64000 || rows.len() % 16 != 0 {
-        return Err(FieldFault::Malformed);
+    /// The plan in the bytes between two places. The span's old end is back afterwards, refused or not.
+    pub(crate) fn read_plan<'a>(
+        &mut self,
+        bytes: &'a [u8],
+        from: usize,
+        to: usize,
+    ) -> Result<ArchivedPlan<'a>, PlanFault>
+        requires { to ≤ length bytes.now }
+        ensures value { seen_plan result ≡ plan_in from (left bytes.now record { at = from; end = to }) }
+        ensures parts { PlanParts bytes.entry from result }
+        ensures end { self.new.end ≡ self.old.end }
+    {
+        let inside = Inside::enter(self, from, to);
+        let title = inside
+            .span
+            .read_title(bytes)
+            .map_err(|fault| PlanFault::InField(from, fault))?;
+        let place = inside.span.at;
+        let rows = inside
+            .span
+            .read_rows(bytes)
+            .map_err(|fault| PlanFault::InField(place, fault))?;
+        let place = inside.span.at;
+        if place < to {
+            return Err(PlanFault::InField(place, FieldFault::Malformed));
+        }
+        check(&rows)?;
+        Ok(ArchivedPlan { title, rows })
     }
-    Ok(PlanView::new(rows))
-}
-
-/// The plan in the bytes between two places. The span's old end is back afterwards, refused or not.
-pub(crate) fn read_plan<'a>(
-    bytes: &'a [u8],
-    span: &mut Span,
-    from: usize,
-    to: usize,
-) -> Result<ArchivedPlan<'a>, PlanFault>
-    requires { to ≤ length bytes.now }
-    ensures value { seen_plan result ≡ plan_in from (left bytes.now record { at = from; end = to }) }
-    ensures parts { PlanParts bytes.entry from result }
-    ensures end { span.new.end ≡ span.old.end }
-{
-    let inside = Inside::enter(span, from, to);
-    let title = in_field(from, read_title(bytes, inside.span))?;
-    let place = inside.span.at;
-    let rows = in_field(place, read_rows(bytes, inside.span))?;
-    let place = inside.span.at;
-    if place < to {
-        return Err(PlanFault::InField(place, FieldFault::Malformed));
-    }
-    check(&rows)?;
-    Ok(ArchivedPlan { title, rows })
 }

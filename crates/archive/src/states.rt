@@ -12,7 +12,7 @@ pub struct OpenArchive {
 }
 
 /// A finished archive. Nothing can be added to it.
-#[derive(Clone, Copy, PartialEq, Eq)]
+#[derive(Clone, Copy, Debug, PartialEq, Eq)]
 pub struct ClosedArchive {
     pub(crate) len: usize,
 }
@@ -33,25 +33,23 @@ impl ClosedArchive {
     }
 }
 
-#[derive(Clone, Copy, PartialEq, Eq)]
+/// Why no archive was begun. The discriminant is the number that it goes by.
+#[derive(Clone, Copy, Debug, PartialEq, Eq)]
 pub enum BeginRefusal {
-    NoSuchDate,
+    NoSuchDate = 17,
     /// The bytes are too few for the date.
-    NoRoom,
+    NoRoom = 14,
 }
 
 impl BeginRefusal {
     pub fn number(self) -> u8
         ensures { result ≡ begin_number self }
     {
-        match self {
-            BeginRefusal::NoSuchDate => 17,
-            BeginRefusal::NoRoom => 14,
-        }
+        self as u8
     }
 }
 
-#[derive(Clone, Copy, PartialEq, Eq)]
+#[derive(Clone, Copy, Debug, PartialEq, Eq)]
 pub enum AddRefusal {
     BadTitle,
     BadPlan(CheckRefusal),
@@ -80,7 +78,7 @@ impl From<CheckRefusal> for AddRefusal {
 }
 
 /// The bytes are too few for the last field.
-#[derive(Clone, Copy, PartialEq, Eq)]
+#[derive(Clone, Copy, Debug, PartialEq, Eq)]
 pub struct CloseRefusal;
 
 impl CloseRefusal {

@@ -5,6 +5,9 @@ ghost use Rattle.storage.specs.Bytes.{rows_of};
 use plane::Halfsegment;
 use storage::{NoSuchPlace, Source, row_at};
 
+/// How many bytes a row takes.
+pub(crate) const ROW: usize = 16;
+
 /// Rows in bytes, sixteen a row; a rest of less than sixteen is no row.
 #[derive(Clone, Copy)]
 pub struct PlanView<'a> {
@@ -23,7 +26,7 @@ impl<'a> Source for PlanView<'a> {
     ghost rows = { λ s. rows_of s.bytes.now };
 
     fn count(&self) -> usize {
-        self.bytes.len() / 16
+        self.bytes.len() / ROW
     }
 
     fn row(&self, i: usize) -> Result<Halfsegment, NoSuchPlace> {

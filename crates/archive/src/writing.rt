@@ -1,13 +1,27 @@
 //! Writing an archive: begin it, add plans, close it. Each call is lent the bytes.
 ghost use Rattle.std.specs.Prelude.{◌≡◌, ℕ, ◌+◌, ◌*◌, ◌<◌, ◌≤◌, ◌∷◌, length};
 ghost use Rattle.encoding.specs.Format.{date_field, last_field, plan_field, rows_content, two_bytes, valid_title};
+ghost use Rattle.archive.specs.Fields.{tag_number};
 ghost use Rattle.archive.specs.Writing.{add_answer, add_fault, begin_answer, close_answer, KeepsBegun, KeepsAdded, KeepsClosed, patched, written};
 
-use crate::fields::{DATE, LAST, PLAN, ROWS, TITLE};
+use crate::fields::{HEAD, Tag};
 use crate::states::{AddRefusal, BeginRefusal, CloseRefusal, ClosedArchive, OpenArchive};
+use crate::views::ROW;
 use encoding::Date;
 use region::check;
-use storage::{Source, row_bytes};
+use storage::{Rows, Source, row_bytes};
+
+/// How many rows a plan may have.
+pub(crate) const MOST_ROWS: usize = 4000;
+
+/// How many bytes a title may have.
+const LONGEST_TITLE: usize = 40;
+
+/// How many bytes the field of the date takes.
+const DATE_FIELD: usize = HEAD + 4;
+
+/// How many bytes the last field takes.
+const LAST_FIELD: usize = HEAD + 2;
 
 /// Writes the new bytes over the old ones from the place `at` on.
 fn put(bytes: &mut [u8], at: usize, new: &[u8])
@@ -19,11 +33,12 @@ fn put(bytes: &mut [u8], at: usize, new: &[u8])
 }
 
 /// Writes a field's tag and length.
-fn put_head(bytes: &mut [u8], at: usize, tag: u8, len: usize)
+fn put_head(bytes: &mut [u8], at: usize, tag: Tag, len: usize)
     requires { (at + 3 ≤ length bytes.old) × (len < 65536) }
-    ensures { bytes.new ≡ patched bytes.old at (tag ∷ two_bytes len) }
+    ensures { bytes.new ≡ patched bytes.old at (tag_number tag ∷ two_bytes len) }
 {
-    put(bytes, at, &[tag, (len / 256) as u8, (len % 256) as u8]);
+    let [high, low] = (len as u16).to_be_bytes();
+    put(bytes, at, &[tag as u8, high, low]);
 }
 
 /// Writes the rows of the source, sixteen bytes each.
@@ -31,9 +46,8 @@ fn put_rows<S: Source>(bytes: &mut [u8], at: usize, source: &S)
     requires { at + 16 * length (S.rows source.now) ≤ length bytes.old }
     ensures { bytes.new ≡ patched bytes.old at (rows_content (S.rows source.now)) }
 {
-    for i in 0..source.count() {
-        let Ok(row) = source.row(i) else { return };
-        put(bytes, at + 16 * i, &row_bytes(row));
+    for (i, row) in Rows::of(source).enumerate() {
+        put(bytes, at + ROW * i, &row_bytes(row));
     }
 }
 
@@ -41,15 +55,7 @@ fn put_rows<S: Source>(bytes: &mut [u8], at: usize, source: &S)
 pub fn is_title(title: &[u8]) -> bool
     ensures { result ≡ valid_title title.now }
 {
-    if title.len() > 40 {
-        return false;
-    }
-    for b in title {
-        if *b < 0x20 || *b > 0x7E {
-            return false;
-        }
-    }
-    true
+    title.len() <= LONGEST_TITLE && title.iter().all(|byte| matches!(byte, 0x20..=0x7E))
 }
 
 impl OpenArchive {
@@ -62,12 +68,19 @@ impl OpenArchive {
         if !date.is_valid() {
             return Err(BeginRefusal::NoSuchDate);
         }
-        if bytes.len() < 7 {
+        if bytes.len() < DATE_FIELD {
             return Err(BeginRefusal::NoRoom);
         }
         let [high, low] = date.year.to_be_bytes();
-        put(bytes, 0, &[DATE, 0, 4, high, low, date.month, date.day]);
-        Ok(OpenArchive { len: 7, plans: 0 })
+        put(
+            bytes,
+            0,
+            &[Tag::Date as u8, 0, 4, high, low, date.month, date.day],
+        );
+        Ok(OpenArchive {
+            len: DATE_FIELD,
+            plans: 0,
+        })
     }
 
     /// What stands against adding the plan, if anything.
@@ -79,10 +92,10 @@ impl OpenArchive {
         }
         check(source)?;
         let count = source.count();
-        if count > 4000 || self.plans == u16::MAX || room < self.len {
+        if count > MOST_ROWS || self.plans == u16::MAX {
             return Err(AddRefusal::TooLarge);
         }
-        if room - self.len < 9 + title.len() + 16 * count {
+        if room.saturating_sub(self.len) < 3 * HEAD + title.len() + ROW * count {
             return Err(AddRefusal::TooLarge);
         }
         Ok(())
@@ -103,15 +116,17 @@ impl OpenArchive {
             return Err((self, refusal));
         }
         let OpenArchive { len, plans } = self;
-        let count = source.count();
         let size = title.len();
-        put_head(bytes, len, PLAN, 6 + size + 16 * count);
-        put_head(bytes, len + 3, TITLE, size);
-        put(bytes, len + 6, title);
-        put_head(bytes, len + 6 + size, ROWS, 16 * count);
-        put_rows(bytes, len + 9 + size, source);
+        let rows = ROW * source.count();
+        let title_at = len + HEAD;
+        let rows_at = title_at + HEAD + size;
+        put_head(bytes, len, Tag::Plan, HEAD + size + HEAD + rows);
+        put_head(bytes, title_at, Tag::Title, size);
+        put(bytes, title_at + HEAD, title);
+        put_head(bytes, rows_at, Tag::Rows, rows);
+        put_rows(bytes, rows_at + HEAD, source);
         Ok(OpenArchive {
-            len: len + 9 + size + 16 * count,
+            len: rows_at + HEAD + rows,
             plans: plans + 1,
         })
     }
@@ -122,12 +137,14 @@ impl OpenArchive {
         ensures bytes { bytes.new ≡ written result bytes.old self.len (last_field self.plans) }
         ensures keeps { KeepsClosed self bytes.old result bytes.new }
     {
-        if bytes.len() < 5 || bytes.len() - 5 < self.len {
+        if bytes.len().saturating_sub(self.len) < LAST_FIELD {
             return Err((self, CloseRefusal));
         }
         let OpenArchive { len, plans } = self;
         let [high, low] = plans.to_be_bytes();
-        put(bytes, len, &[LAST, 0, 2, high, low]);
-        Ok(ClosedArchive { len: len + 5 })
+        put(bytes, len, &[Tag::Last as u8, 0, 2, high, low]);
+        Ok(ClosedArchive {
+            len: len + LAST_FIELD,
+        })
     }
 }

@@ -2,7 +2,7 @@
 use archive::AddRefusal;
 
 /// What is wrong with a line.
-#[derive(Clone, Copy, PartialEq, Eq)]
+#[derive(Clone, Copy, Debug, PartialEq, Eq)]
 pub enum LineFault {
     /// The first line is not `date YYYY-MM-DD`.
     NotADate,
@@ -20,7 +20,7 @@ pub enum LineFault {
 }
 
 /// The first line at fault, from 1, and what is wrong with it.
-#[derive(Clone, Copy, PartialEq, Eq)]
+#[derive(Clone, Copy, Debug, PartialEq, Eq)]
 pub struct PackFault {
     pub line: usize,
     pub why: LineFault,

@@ -2,8 +2,7 @@
 ghost use Rattle.archivetext.specs.Round.{RoundTrip};
 
 /// The text of every archive is read as that archive, so unpacking and packing again gives the same bytes.
-pub fn text_stands_for_archive() -> u8
+pub fn text_stands_for_archive()
     ensures { RoundTrip }
 {
-    0
 }

@@ -14,13 +14,13 @@ use Rattle.encoding.specs.declared.faults.FieldFault.TheVariants.{NoFit, Malform
 use Rattle.encoding.specs.declared.faults.PlanFault.{PlanFault}
 use Rattle.encoding.specs.declared.faults.PlanFault.TheVariants.{InField, InRows}
 use Rattle.encoding.specs.declared.faults.ArchiveFault.{ArchiveFault}
-use Rattle.encoding.specs.declared.faults.ArchiveFault.TheVariants.{AtField}
+use Rattle.encoding.specs.declared.faults.ArchiveFault.TheVariants.{AtField, InPlan}
 use Rattle.encoding.specs.Dates.{valid_date}
 use Rattle.encoding.specs.Format.{Plan, Archive, date_tag, plan_tag, title_tag, rows_tag, last_tag, two_bytes, field, date_field, rows_content, plan_field, plan_fields, last_field, encoded, valid_title, SoundPlan, Sound}
 use Rattle.encoding.specs.Read.{tag_of, size_of, content_of, beyond, framed, and_then, in_field, at_field, in_plan, dated, date_in, title_in, rows_in, count_in, checked, ended, rows_next, plan_in, last_in, next_in, plans_in, read_of}
 use Rattle.encoding.specs.Inverse.{Bytes}
 use Rattle.encoding.proofs.DigitsBack.{two_bytes_back, rows_content_back}
-use Rattle.encoding.proofs.Unframed.{err_ok, ok_same, cond_ok, and_then_ok, in_field_ok, at_field_ok, in_plan_ok, empty_is, framed_ok, tagged, read_as}
+use Rattle.encoding.proofs.Unframed.{err_ok, ok_same, cond_ok, and_then_ok, map_fault_ok, empty_is, framed_ok, tagged, read_as}
 
 -- the contents of the fields
 title_only : (bs title : List ℕ) → title_in bs ≡ Ok title → (bs ≡ title) × (valid_title title ≡ true)
@@ -86,7 +86,7 @@ rows_next_only : (place : ℕ) (due title : List ℕ) (p : Plan) → Bytes due �
 rows_next_only place due title p small v e =
     let s = and_then_ok (in_field place (and_then (framed (eqb rows_tag) due) (λ _. rows_in (content_of due)))) (λ rows. ended (place + (3 + size_of due)) (beyond due) (record { title = title; rows = rows })) p e in
     let rows = s.0 in
-    let f = read_as rows_tag due (rows_in (content_of due)) rows small (in_field_ok place _ rows s.1) in
+    let f = read_as rows_tag due (rows_in (content_of due)) rows small (map_fault_ok (InField place) _ rows s.1) in
     let plan : Plan = record { title = title; rows = rows } in
     let g = ended_only (place + (3 + size_of due)) (beyond due) plan p s.2 in
     let r = rows_only (content_of due) rows f.content f.answer in
@@ -101,7 +101,7 @@ plan_only : (place : ℕ) (due : List ℕ) (p : Plan) → Bytes due → plan_in 
 plan_only place due p small e =
     let s = and_then_ok (in_field place (and_then (framed (eqb title_tag) due) (λ _. title_in (content_of due)))) (rows_next (place + (3 + size_of due)) (beyond due)) p e in
     let title = s.0 in
-    let f = read_as title_tag due (title_in (content_of due)) title small (in_field_ok place _ title s.1) in
+    let f = read_as title_tag due (title_in (content_of due)) title small (map_fault_ok (InField place) _ title s.1) in
     let t = title_only (content_of due) title f.answer in
     let r = rows_next_only (place + (3 + size_of due)) (beyond due) title p f.beyond t.1 s.2 in
     (f.is ∙ (λ i. field title_tag ((t.0 ∙ sym r.0) i) ++ r.1 i), r.2)
@@ -114,21 +114,21 @@ Next n due None = (due ≡ last_field n) × (n ≤ 65535)
 last_next : (place n : ℕ) (due : List ℕ) (o : Option Plan) → due ≡ field last_tag (content_of due) ++ beyond due → Bytes (content_of due) → last_in place n due ≡ Ok o → Next n due o
 last_next place n due o is small e =
     let s = and_then_ok (at_field place (count_in n (content_of due))) (λ _. cond (eqb (length (beyond due)) 0) (Ok None) (Err (AtField (place + (3 + size_of due)) Malformed))) o e in
-    let c = count_only n (content_of due) small (at_field_ok place (count_in n (content_of due)) tt s.1) in
+    let c = count_only n (content_of due) small (map_fault_ok (AtField place) (count_in n (content_of due)) tt s.1) in
     let t = cond_ok (eqb (length (beyond due)) 0) (Ok None) (AtField (place + (3 + size_of due)) Malformed) o s.2 in
     subst (Next n due) (ok_same None o t.1) (is ∙ (λ i. field last_tag (c.0 i) ++ empty_is (beyond due) t.0 i), c.1)
 
 plan_next : (place n : ℕ) (due : List ℕ) (o : Option Plan) → due ≡ field plan_tag (content_of due) ++ beyond due → Bytes (content_of due) → and_then (in_plan place (suc n) (plan_in (place + 3) (content_of due))) (λ plan. Ok (Some plan)) ≡ Ok o → Next n due o
 plan_next place n due o is small e =
     let s = and_then_ok (in_plan place (suc n) (plan_in (place + 3) (content_of due))) (λ plan. Ok (Some plan)) o e in
-    let r = plan_only (place + 3) (content_of due) s.0 small (in_plan_ok place (suc n) (plan_in (place + 3) (content_of due)) s.0 s.1) in
+    let r = plan_only (place + 3) (content_of due) s.0 small (map_fault_ok (InPlan place (suc n)) (plan_in (place + 3) (content_of due)) s.0 s.1) in
     subst (Next n due) (ok_same (Some s.0) o s.2) (is ∙ ap (λ c. field plan_tag c ++ beyond due) r.0, r.1)
 
 next_only : (place n : ℕ) (due : List ℕ) (o : Option Plan) → Bytes due → next_in place n due ≡ Ok o → Next n due o × Bytes (beyond due)
 next_only place n due o small e =
     let may_come : ℕ → Bool = λ tag. eqb plan_tag tag || eqb last_tag tag in
     let s = and_then_ok (at_field place (framed may_come due)) _ o e in
-    let u = framed_ok may_come due small (at_field_ok place (framed may_come due) tt s.1) in
+    let u = framed_ok may_come due small (map_fault_ok (AtField place) (framed may_come due) tt s.1) in
     (go (eqb plan_tag (tag_of due)) (eqb last_tag (tag_of due)) u.comes (tagged plan_tag due u.is) (tagged last_tag due u.is) u.content s.2, u.beyond)
   where
     go : (t l : Bool) → (t || l) ≡ true → (t ≡ true → due ≡ field plan_tag (content_of due) ++ beyond due) → (l ≡ true → due ≡ field last_tag (content_of due) ++ beyond due) → Bytes (content_of due) → cond t (and_then (in_plan place (suc n) (plan_in (place + 3) (content_of due))) (λ plan. Ok (Some plan))) (last_in place n due) ≡ Ok o → Next n due o
@@ -166,7 +166,7 @@ pub only : (bs : List ℕ) (a : Archive) → Bytes bs → read_of bs ≡ Ok a �
 only bs a small e =
     let s = and_then_ok (at_field 0 (and_then (framed (eqb date_tag) bs) (λ _. date_in (content_of bs)))) _ a e in
     let date = s.0 in
-    let f = read_as date_tag bs (date_in (content_of bs)) date small (at_field_ok 0 _ date s.1) in
+    let f = read_as date_tag bs (date_in (content_of bs)) date small (map_fault_ok (AtField 0) _ date s.1) in
     let d = date_only (content_of bs) date f.content f.answer in
     let t = and_then_ok (plans_in (length bs) (3 + size_of bs) 0 (beyond bs)) (λ plans. Ok (record { date = date; plans = plans })) a s.2 in
     let plans = t.0 in

@@ -5,9 +5,8 @@ use Rattle.std.proofs.lemmas.List.{drop-drop, length-take-le, take-append-drop}
 use Rattle.std.proofs.lemmas.Bool.{leb-true, eqb-true}
 use Rattle.encoding.specs.declared.faults.FieldFault.{FieldFault}
 use Rattle.encoding.specs.declared.faults.FieldFault.TheVariants.{NoFit, Malformed}
-use Rattle.encoding.specs.declared.faults.PlanFault.{PlanFault}
 use Rattle.encoding.specs.Format.{field, two_bytes}
-use Rattle.encoding.specs.Read.{tag_of, size_of, content_of, beyond, framed, and_then, in_field, at_field, in_plan}
+use Rattle.encoding.specs.Read.{tag_of, size_of, content_of, beyond, framed, and_then, map_fault}
 use Rattle.encoding.specs.Inverse.{Bytes}
 use Rattle.encoding.proofs.DigitsBack.{two_bytes_back}
 
@@ -32,17 +31,9 @@ pub and_then_ok : {A B E : Type 0} (r : Result A E) (next : A → Result B E) (b
 and_then_ok (Ok a) next b e = (a, refl, e)
 and_then_ok (Err f) next b e = err_ok f b e
 
-pub in_field_ok : {A : Type 0} (place : ℕ) (r : Result A FieldFault) (a : A) → in_field place r ≡ Ok a → r ≡ Ok a
-in_field_ok place (Ok b) a e = cc
-in_field_ok place (Err f) a e = err_ok _ a e
-
-pub at_field_ok : {A : Type 0} (place : ℕ) (r : Result A FieldFault) (a : A) → at_field place r ≡ Ok a → r ≡ Ok a
-at_field_ok place (Ok b) a e = cc
-at_field_ok place (Err f) a e = err_ok _ a e
-
-pub in_plan_ok : {A : Type 0} (place plan : ℕ) (r : Result A PlanFault) (a : A) → in_plan place plan r ≡ Ok a → r ≡ Ok a
-in_plan_ok place plan (Ok b) a e = cc
-in_plan_ok place plan (Err f) a e = err_ok _ a e
+pub map_fault_ok : {A E F : Type 0} (more : E → F) (r : Result A E) (a : A) → map_fault more r ≡ Ok a → r ≡ Ok a
+map_fault_ok more (Ok b) a e = cc
+map_fault_ok more (Err f) a e = err_ok _ a e
 
 -- a list of no bytes is empty
 pub empty_is : (bs : List ℕ) → eqb (length bs) 0 ≡ true → bs ≡ []

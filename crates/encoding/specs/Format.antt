@@ -1,6 +1,6 @@
 -- The bytes of an archive. A field is a tag, a length of two bytes and that many bytes; numbers go highest byte first.
 use Rattle.std.specs.Prelude.{◌≡◌, ℕ, ◌/◌, ◌%◌, ◌≤◌, Bool, true, ◌&&◌, List, [], ◌∷◌, ◌++◌, length, nat_le}
-use Rattle.std.specs.List.{AllByRecursion}
+use Rattle.std.specs.List.{AllByRecursion, list_all}
 use Rattle.plane.specs.declared.halfsegment.Halfsegment.{Halfsegment}
 use Rattle.storage.specs.Bytes.{row_bytes}
 use Rattle.region.specs.Plans.{WellFormed, Closed}
@@ -63,9 +63,11 @@ abbrev pub encoded : Archive → List ℕ
 encoded a = date_field a.date ++ (plan_fields a.plans ++ last_field (length a.plans))
 
 -- a title: at most 40 bytes from 20 to 7E in hexadecimal
+abbrev pub is_printable : ℕ → Bool
+is_printable b = nat_le 32 b && nat_le b 126
+
 abbrev pub printable : List ℕ → Bool
-printable [] = true
-printable (b ∷ bs) = (nat_le 32 b && nat_le b 126) && printable bs
+printable bs = list_all is_printable bs
 
 abbrev pub valid_title : List ℕ → Bool
 valid_title title = nat_le (length title) 40 && printable title

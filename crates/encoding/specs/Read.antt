@@ -36,18 +36,20 @@ abbrev pub and_then : {A B E : Type 0} → Result A E → (A → Result B E) →
 and_then (Ok a) next = next a
 and_then (Err fault) next = Err fault
 
+-- a fault that a layer adds to
+abbrev pub map_fault : {A E F : Type 0} → (E → F) → Result A E → Result A F
+map_fault more (Ok a) = Ok a
+map_fault more (Err fault) = Err (more fault)
+
 -- a fault with the place of its field, in a plan and outside the plans; a plan's fault with the plan's place and number
 abbrev pub in_field : {A : Type 0} → ℕ → Result A FieldFault → Result A PlanFault
-in_field place (Ok a) = Ok a
-in_field place (Err fault) = Err (InField place fault)
+in_field place r = map_fault (InField place) r
 
 abbrev pub at_field : {A : Type 0} → ℕ → Result A FieldFault → Result A ArchiveFault
-at_field place (Ok a) = Ok a
-at_field place (Err fault) = Err (AtField place fault)
+at_field place r = map_fault (AtField place) r
 
 abbrev pub in_plan : {A : Type 0} → ℕ → ℕ → Result A PlanFault → Result A ArchiveFault
-in_plan place plan (Ok a) = Ok a
-in_plan place plan (Err fault) = Err (InPlan place plan fault)
+in_plan place plan r = map_fault (InPlan place plan) r
 
 -- what the contents of the fields say: first the length is tested, then the rest
 abbrev pub dated : Date → Result Date FieldFault

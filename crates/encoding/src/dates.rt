@@ -3,7 +3,7 @@ ghost use Rattle.std.specs.Prelude.{◌≡◌};
 ghost use Rattle.encoding.specs.Dates.{days_in, valid_date};
 
 /// A day by its numbers, which may be of no day that there is.
-#[derive(Clone, Copy, PartialEq, Eq)]
+#[derive(Clone, Copy, Debug, PartialEq, Eq, PartialOrd, Ord)]
 pub struct Date {
     pub year: u16,
     pub month: u8,
@@ -26,12 +26,8 @@ impl Date {
     pub fn is_valid(self) -> bool
         ensures { result ≡ valid_date self }
     {
-        if self.year < 1950 || self.year > 2199 {
-            return false;
-        }
-        if self.month < 1 || self.month > 12 {
-            return false;
-        }
-        1 <= self.day && self.day <= days_in(self.year, self.month)
+        matches!(self.year, 1950..=2199)
+            && matches!(self.month, 1..=12)
+            && (1..=days_in(self.year, self.month)).contains(&self.day)
     }
 }

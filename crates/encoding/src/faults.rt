@@ -5,33 +5,28 @@ ghost use Rattle.encoding.specs.Faults.{fault_check, fault_number, fault_place, 
 
 use region::CheckRefusal;
 
-/// What is wrong with a field by itself.
-#[derive(Clone, Copy, PartialEq, Eq)]
+/// What is wrong with a field by itself. The discriminant is the number that it goes by.
+#[derive(Clone, Copy, Debug, PartialEq, Eq)]
 pub enum FieldFault {
     /// No byte is left, or fewer than the field says that it has.
-    NoFit,
+    NoFit = 12,
     /// A wrong tag, length or number of plans, or bytes that are left over.
-    Malformed,
+    Malformed = 13,
     /// A title that is too long or has a byte that is no printable character.
-    BadTitle,
-    NoSuchDate,
+    BadTitle = 15,
+    NoSuchDate = 17,
 }
 
 impl FieldFault {
     pub fn number(self) -> u8
         ensures { result ≡ field_number self }
     {
-        match self {
-            FieldFault::NoFit => 12,
-            FieldFault::Malformed => 13,
-            FieldFault::BadTitle => 15,
-            FieldFault::NoSuchDate => 17,
-        }
+        self as u8
     }
 }
 
 /// What is wrong in a plan: a field of it, by its place, or its rows.
-#[derive(Clone, Copy, PartialEq, Eq)]
+#[derive(Clone, Copy, Debug, PartialEq, Eq)]
 pub enum PlanFault {
     InField(usize, FieldFault),
     InRows(CheckRefusal),
@@ -57,7 +52,7 @@ impl From<CheckRefusal> for PlanFault {
 }
 
 /// What is wrong with an archive: a field outside the plans, by its place, or a plan, by the place of its field and its number from 1.
-#[derive(Clone, Copy, PartialEq, Eq)]
+#[derive(Clone, Copy, Debug, PartialEq, Eq)]
 pub enum ArchiveFault {
     AtField(usize, FieldFault),
     InPlan(usize, usize, PlanFault),

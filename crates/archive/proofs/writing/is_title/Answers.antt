@@ -1,19 +1,11 @@
-use Rattle.std.proofs.Common.{refl, inl, inr}
-use Rattle.archive.proofs.Titles.{more, bad, good}
+use Rattle.std.proofs.Common.{sym, ap, ◌∙◌, ◌&&◌, length, rules, tests}
+use Rattle.std.proofs.lemmas.Bool.{le-leb}
+use Rattle.std.proofs.lemmas.Iterator.{YieldsList-from_slice}
+use Rattle.std.proofs.lemmas.Iterator.Search.{all_from_yields_List}
+use Rattle.encoding.specs.Format.{is_printable, printable}
 use Rattle.archive.proofs.writing.is_title.Goals as goal
-use Rattle.archive.proofs.writing.is_title.Goals.{then-b-lt32-via-then-b-lt32, then-b-lt32-via-else-b-lt32+then-b-gt126}
 
-pub loop-b-init : goal.loop-b-init
-loop-b-init c = refl
-
-pub returns-then-b-lt32 : goal.returns-then-b-lt32
-returns-then-b-lt32 c = elim c.then-b-lt32.branch [
-  | then-b-lt32-via-then-b-lt32 w ↦ bad c.args.title.now c.loop-b.b-index c.loop-b-test.true (inl w.if-b-lt32.true) c.loop-b.invariant
-  | then-b-lt32-via-else-b-lt32+then-b-gt126 w ↦ bad c.args.title.now c.loop-b.b-index c.loop-b-test.true (inr w.if-b-gt126.true) c.loop-b.invariant
-]
-
-pub loop-b-preserved : goal.loop-b-preserved
-loop-b-preserved c = more c.args.title.now c.loop-b.b-index c.loop-b-test.true c.if-b-lt32.false c.if-b-gt126.false c.loop-b.invariant
-
-pub returns : goal.returns
-returns c = good c.args.title.now c.loop-b.b-index c.loop-b-test.false c.if-title-gt40.false c.loop-b.invariant
+pub returns-then-title-le-LONGEST_TITLE : goal.returns-then-title-le-LONGEST_TITLE
+returns-then-title-le-LONGEST_TITLE c =
+    all_from_yields_List is_printable c.all.new.self _ _ c.all.ensures.ran (YieldsList-from_slice c.args.title.now cc) (λ x b q k. search (rules, tests)) ∙
+    ap (λ t. t && printable c.args.title.now) (sym (le-leb (length c.args.title.now) 40 c.if-title-le-LONGEST_TITLE.true))
