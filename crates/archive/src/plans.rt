@@ -6,10 +6,11 @@ ghost use Rattle.archive.specs.Fields.{ContentPart, left, Moved, PlanParts, Rows
 
 use crate::fields::Tag;
 use crate::spans::{Inside, Span};
-use crate::views::{PlanView, ROW};
-use crate::writing::{MOST_ROWS, is_title};
+use crate::views::PlanView;
+use crate::writing::is_title;
 use encoding::{FieldFault, PlanFault};
 use region::check;
+use storage::{MOST_ROWS, ROW_BYTES};
 
 /// A plan of an archive: its title, and its rows as a source.
 #[derive(Clone, Copy)]
@@ -39,7 +40,7 @@ impl Span {
         ensures moved { Moved bytes.now self.old self.new result }
     {
         let rows = self.read_content(bytes, Tag::Rows)?;
-        if rows.len() > ROW * MOST_ROWS || rows.len() % ROW != 0 {
+        if rows.len() > ROW_BYTES * MOST_ROWS || rows.len() % ROW_BYTES != 0 {
             return Err(FieldFault::Malformed);
         }
         Ok(PlanView::new(rows))

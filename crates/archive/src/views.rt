@@ -3,10 +3,7 @@ ghost use Rattle.std.specs.Prelude.{◌≡◌};
 ghost use Rattle.storage.specs.Bytes.{rows_of};
 
 use plane::Halfsegment;
-use storage::{NoSuchPlace, Source, row_at};
-
-/// How many bytes a row takes.
-pub(crate) const ROW: usize = 16;
+use storage::{NoSuchPlace, ROW_BYTES, Source, row_at};
 
 /// Rows in bytes, sixteen a row; a rest of less than sixteen is no row.
 #[derive(Clone, Copy)]
@@ -26,7 +23,7 @@ impl<'a> Source for PlanView<'a> {
     ghost rows = { λ s. rows_of s.bytes.now };
 
     fn count(&self) -> usize {
-        self.bytes.len() / ROW
+        self.bytes.len() / ROW_BYTES
     }
 
     fn row(&self, i: usize) -> Result<Halfsegment, NoSuchPlace> {

@@ -6,13 +6,9 @@ ghost use Rattle.archive.specs.Writing.{add_answer, add_fault, begin_answer, clo
 
 use crate::fields::{HEAD, Tag};
 use crate::states::{AddRefusal, BeginRefusal, CloseRefusal, ClosedArchive, OpenArchive};
-use crate::views::ROW;
 use encoding::Date;
 use region::check;
-use storage::{Rows, Source, row_bytes};
-
-/// How many rows a plan may have.
-pub(crate) const MOST_ROWS: usize = 4000;
+use storage::{MOST_ROWS, ROW_BYTES, Rows, Source, row_bytes};
 
 /// How many bytes a title may have.
 const LONGEST_TITLE: usize = 40;
@@ -47,7 +43,7 @@ fn put_rows<S: Source>(bytes: &mut [u8], at: usize, source: &S)
     ensures { bytes.new ≡ patched bytes.old at (rows_content (S.rows source.now)) }
 {
     for (i, row) in Rows::of(source).enumerate() {
-        put(bytes, at + ROW * i, &row_bytes(row));
+        put(bytes, at + ROW_BYTES * i, &row_bytes(row));
     }
 }
 
@@ -95,7 +91,7 @@ impl OpenArchive {
         if count > MOST_ROWS || self.plans == u16::MAX {
             return Err(AddRefusal::TooLarge);
         }
-        if room.saturating_sub(self.len) < 3 * HEAD + title.len() + ROW * count {
+        if room.saturating_sub(self.len) < 3 * HEAD + title.len() + ROW_BYTES * count {
             return Err(AddRefusal::TooLarge);
         }
         Ok(())
@@ -117,7 +113,7 @@ impl OpenArchive {
         }
         let OpenArchive { len, plans } = self;
         let size = title.len();
-        let rows = ROW * source.count();
+        let rows = ROW_BYTES * source.count();
         let title_at = len + HEAD;
         let rows_at = title_at + HEAD + size;
         put_head(bytes, len, Tag::Plan, HEAD + size + HEAD + rows);
