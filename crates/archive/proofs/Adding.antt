@@ -1,4 +1,4 @@
--- Adding a plan: what an admission says (`admitted`), and the five writes as one (`add_bytes`).
+-- Adding a plan: what an admission says (`admitted`), its rows one by one (`row_more`), and the five writes as one (`add_bytes`).
 use Rattle.std.proofs.Common.{◌≡◌, ℕ, ◌+◌, ◌*◌, ◌<◌, ◌≤◌, Bool, true, false, cond, ◌&&◌, ltb, leb, List, [], ◌∷◌, ◌++◌, length, take, drop, Ok, Err, Result, sym, refl, ap, ◌∙◌, arith}
 use Rattle.std.proofs.lemmas.List.{append_assoc, append-nil, length-append, length-take-le, take_more, take_all}
 use Rattle.std.proofs.lemmas.Bool.Decides.{nat_tests}
@@ -12,7 +12,7 @@ use Rattle.encoding.specs.Format.{Plan, plan_field, rows_content, two_bytes, val
 use Rattle.archive.specs.declared.states.OpenArchive.{OpenArchive}
 use Rattle.archive.specs.declared.states.AddRefusal.{AddRefusal}
 use Rattle.archive.specs.declared.states.AddRefusal.TheVariants.{BadTitle, BadPlan, TooLarge}
-use Rattle.archive.specs.Writing.{patched, plan_size, add_fault, add_answer}
+use Rattle.archive.specs.Writing.{patched, plan_size, add_fault}
 use Rattle.archive.proofs.Patches.{more, none}
 
 pub record Admitted (o : OpenArchive) (room : ℕ) (title : List ℕ) (rows : List Halfsegment) : Type 0 where
@@ -28,9 +28,6 @@ module _ (o : OpenArchive) (room : ℕ) (title : List ℕ) (rows : List Halfsegm
     | Err refusal ↦ Err (BadPlan refusal)
     | Ok _ ↦ cond (leb (length rows) 4000 && (ltb o.plans 65535 && leb (o.len + plan_size title rows) room)) (Ok tt) (Err TooLarge)
   ]
-
-  abbrev grown_to : OpenArchive
-  grown_to = record { len = o.len + plan_size title rows; plans = o.plans + 1 }
 
   pub admitted : add_fault o room title rows ≡ Ok tt → Admitted o room title rows
   admitted e = by_title (valid_title title) refl e
@@ -48,9 +45,6 @@ module _ (o : OpenArchive) (room : ℕ) (title : List ℕ) (rows : List Halfsegm
       by_title : (t : Bool) → valid_title title ≡ t → cond t (by_check (check_of rows)) (Err BadTitle) ≡ Ok tt → Admitted o room title rows
       by_title true t h = checks (check_of rows) refl t h
       by_title false t h = absurd (grind arith)
-
-  pub granted : (p : OpenArchive) → p ≡ grown_to → add_fault o room title rows ≡ Ok tt → Ok p ≡ add_answer o room title rows
-  granted p is e = ap Ok is ∙ sym (ap (λ r. elim r [ Ok _ ↦ Ok grown_to | Err refusal ↦ Err (o, refusal) ]) e)
 
 pub content_append : (xs ys : List Halfsegment) → rows_content (xs ++ ys) ≡ rows_content xs ++ rows_content ys
 content_append [] ys = refl

@@ -1,11 +1,9 @@
--- What the bytes hold after a chain of begin, add and close: `begun`, `added`, `finished`.
-use Rattle.std.proofs.Common.{◌≡◌, ℕ, ◌+◌, ◌/◌, ◌%◌, ◌<◌, ◌≤◌, true, List, [], ◌∷◌, ◌++◌, length, get_or, take, drop, sym, refl, ap, ◌∙◌, arith}
+-- What the bytes hold after a chain of begin, add and close: `added` and `finished`.
+use Rattle.std.proofs.Common.{◌≡◌, ℕ, ◌+◌, ◌≤◌, List, [], ◌∷◌, ◌++◌, length, take, drop, sym, refl, ap, ◌∙◌, arith}
 use Rattle.std.proofs.lemmas.List.{append_assoc, append-nil, length-append, length-take, take_at}
 use Rattle.std.proofs.ByRecursion.{All-push}
 use Rattle.plane.specs.declared.halfsegment.Halfsegment.{Halfsegment}
 use Rattle.region.proofs.Verdicts.{accepts}
-use Rattle.encoding.specs.declared.dates.Date.{Date}
-use Rattle.encoding.specs.Dates.{valid_date}
 use Rattle.encoding.specs.Format.{Plan, Archive, SoundPlan, date_field, plan_field, plan_fields, last_field, encoded}
 use Rattle.encoding.specs.Read.{read_of}
 use Rattle.encoding.proofs.Back.{back}
@@ -25,14 +23,6 @@ within a o bs h = omega (arith, ap length h.bytes, length-take o.len bs, h.size)
 fields_push : (ps : List Plan) (p : Plan) → plan_fields (ps ++ (p ∷ [])) ≡ plan_fields ps ++ plan_field p
 fields_push [] p = append-nil (plan_field p)
 fields_push (q ∷ ps) p = ap (λ bs. plan_field q ++ bs) (fields_push ps p) ∙ sym (append_assoc (plan_field q) (plan_fields ps) (plan_field p))
-
-pub begun : (date : Date) (bs cs : List ℕ) → 7 ≤ length bs → valid_date date ≡ true → cs ≡ patched bs 0 (date_field date) → Holds record { date = date; plans = [] } record { len = 7; plans = 0 } cs
-begun date bs cs fits valid e = record {
-  bytes = ap (take 7) e ∙ take_patched bs (date_field date) 0 7 (omega arith) refl ∙ sym (append-nil (date_field date));
-  size = refl;
-  count = refl;
-  sound = record { date = valid; plans = tt; count = omega arith };
-}
 
 module _ (o : OpenArchive) (room : ℕ) (title : List ℕ) (rows : List Halfsegment) (adm : Admitted o room title rows) where
   abbrev plan : Plan
@@ -62,10 +52,6 @@ module _ (o : OpenArchive) (room : ℕ) (title : List ℕ) (rows : List Halfsegm
 closed_bytes : (o : OpenArchive) (bs cs : List ℕ) → cs ≡ patched bs o.len (last_field o.plans) → (a : Archive) → Holds a o bs → take (o.len + 5) cs ≡ encoded a
 closed_bytes o bs cs e a h =
     ap (take (o.len + 5)) e ∙ take_patched bs (last_field o.plans) o.len (o.len + 5) (within a o bs h) refl ∙ (λ i. h.bytes i ++ last_field (h.count i)) ∙ append_assoc (date_field a.date) (plan_fields a.plans) (last_field (length a.plans))
-
--- the two bytes of a 16-bit number, as `to_be_bytes` gives them
-pub last_bytes : (plans : ℕ) (pair : List ℕ) → plans < 65536 → pair ≡ (plans / 256 % 256) ∷ (plans % 256) ∷ [] → 127 ∷ 0 ∷ 2 ∷ get_or pair 0 0 ∷ get_or pair 1 0 ∷ [] ≡ last_field plans
-last_bytes plans pair small e = let high : plans / 256 % 256 ≡ plans / 256 = omega arith in (λ i. 127 ∷ 0 ∷ 2 ∷ get_or (e i) 0 0 ∷ get_or (e i) 1 0 ∷ []) ∙ (λ i. 127 ∷ 0 ∷ 2 ∷ high i ∷ plans % 256 ∷ [])
 
 pub finished : (o : OpenArchive) (bs cs : List ℕ) → cs ≡ patched bs o.len (last_field o.plans) → (a : Archive) → Holds a o bs → Finished a record { len = o.len + 5 } cs
 finished o bs cs e a h =

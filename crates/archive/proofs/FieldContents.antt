@@ -1,19 +1,16 @@
--- The content of a field that was read (`got`), and what it says (`says`).
-use Rattle.std.proofs.Common.{◌≡◌, ℕ, ◌+◌, ◌%◌, ◌<◌, ◌≤◌, min, Bool, true, false, cond, eqb, leb, ◌⊎◌, List, length, take, drop, Ok, Err, Result, sym, ap, ◌∙◌, arith, Bor, rules}
+-- A field that is framed fits (`framed_fits`), and the content of a field that was read (`got`).
+use Rattle.std.proofs.Common.{◌≡◌, ℕ, ◌+◌, ◌≤◌, min, Bool, cond, eqb, leb, List, length, take, drop, Ok, Err, Result, sym, ap, ◌∙◌, arith, Bor, rules}
 use Rattle.std.specs.List.{between}
 use Rattle.std.proofs.lemmas.List.{places, same_lists}
-use Rattle.std.proofs.lemmas.Bool.{leb-true, cond-true, cond-false}
+use Rattle.std.proofs.lemmas.Bool.{leb-true}
 use Rattle.std.proofs.lemmas.List.Edits.{length-between}
-use Rattle.std.proofs.lemmas.Bool.Decides.{nat_tests}
-use Rattle.storage.specs.Bytes.{rows_of}
 use Rattle.encoding.specs.declared.faults.FieldFault.{FieldFault}
-use Rattle.encoding.specs.declared.faults.FieldFault.TheVariants.{NoFit, Malformed, BadTitle}
-use Rattle.encoding.specs.Format.{valid_title}
-use Rattle.encoding.specs.Read.{tag_of, size_of, content_of, framed, and_then, title_in, rows_in}
+use Rattle.encoding.specs.declared.faults.FieldFault.TheVariants.{NoFit, Malformed}
+use Rattle.encoding.specs.Read.{tag_of, size_of, content_of, framed}
 use Rattle.encoding.proofs.Unframed.{cond_ok, cond_err}
 use Rattle.archive.specs.declared.spans.Span.{Span}
 use Rattle.archive.specs.declared.fields.Field.{Field}
-use Rattle.archive.specs.Fields.{Part, part_of, field_tag, left, with_content, Moved}
+use Rattle.archive.specs.Fields.{Part, part_of, field_tag, left}
 use Rattle.archive.proofs.Framing.{length_due}
 
 -- a field that is framed fits into what is left
@@ -49,24 +46,3 @@ got b s may_come f p h e =
       part = record { block = part.block; place = part.place; bytes = part.bytes ∙ ap (λ m. between (s.at + 3) (s.at + 3 + m) b.now) (sym n); fits = omega (arith, part.fits) };
       within = omega (arith, length_due b.now s.at s.end may_come);
     }
-
--- what the content of a framed field says is what the field says
-pub says : {A : Type 0} (tag : ℕ) (meaning : List ℕ → Result A FieldFault) (due content : List ℕ) (r : Result A FieldFault) → framed (eqb tag) due ≡ Ok tt → content ≡ content_of due → meaning content ≡ r → r ≡ with_content tag meaning due
-says tag meaning due content r e c m = sym (ap (λ x. and_then x (λ _. meaning (content_of due))) e ∙ ap meaning (sym c) ∙ m)
-
-pub bad_title : (bs : List ℕ) → false ≡ valid_title bs → title_in bs ≡ Err BadTitle
-bad_title bs e = cond-false (valid_title bs) (Ok bs) (Err BadTitle) (sym e)
-
-pub good_title : (bs : List ℕ) → true ≡ valid_title bs → title_in bs ≡ Ok bs
-good_title bs e = cond-true (valid_title bs) (Ok bs) (Err BadTitle) (sym e)
-
-pub bad_rows : (bs : List ℕ) → (64000 < length bs) ⊎ (length bs % 16 ≡ 0 → ⊥) → rows_in bs ≡ Err Malformed
-bad_rows bs h = cond-false _ (Ok (rows_of bs)) (Err Malformed) (grind (arith, nat_tests))
-
-pub good_rows : (bs : List ℕ) → length bs ≤ 64000 → length bs % 16 ≡ 0 → rows_in bs ≡ Ok (rows_of bs)
-good_rows bs h k = cond-true _ (Ok (rows_of bs)) (Err Malformed) (grind (arith, nat_tests))
-
--- whatever a field's content says, the span is behind the field
-pub moves : {A E : Type 0} (bs : List ℕ) (s t : Span) (r : Result A E) → t ≡ record { at = s.at + (3 + size_of (left bs s)); end = s.end } → Moved bs s t r
-moves bs s t (Ok a) e = e
-moves bs s t (Err fault) e = ap (λ u. u.end) e

@@ -1,13 +1,11 @@
--- The field at the front of what is left to read, by the places of the bytes: each way through `read_field`.
-use Rattle.std.proofs.Common.{◌≡◌, ℕ, ◌+◌, ◌-◌, ◌*◌, ◌<◌, ◌≤◌, min, Bool, true, false, cond, eqb, leb, List, length, get_or, Ok, Err, Result, ap, ◌∙◌, arith, Bor, rules}
+-- The field at the front of what is left to read, by the places of the bytes: what stands against it, `wrong_tag` and `no_content`.
+use Rattle.std.proofs.Common.{◌≡◌, ℕ, ◌+◌, ◌-◌, ◌*◌, ◌<◌, ◌≤◌, min, Bool, true, false, cond, eqb, leb, List, length, get_or, Ok, Err, Result, ap, ◌∙◌, arith, rules}
 use Rattle.std.specs.List.{between}
 use Rattle.std.proofs.lemmas.List.{places}
-use Rattle.std.proofs.lemmas.Bool.{le-leb, lt-leb, eq-eqb, ne_eqb}
+use Rattle.std.proofs.lemmas.Bool.{lt-leb, ne_eqb}
 use Rattle.encoding.specs.declared.faults.FieldFault.{FieldFault}
 use Rattle.encoding.specs.declared.faults.FieldFault.TheVariants.{NoFit, Malformed}
 use Rattle.encoding.specs.Read.{tag_of, size_of, framed}
-use Rattle.archive.specs.declared.spans.Span.{Span}
-use Rattle.archive.specs.Fields.{Part}
 
 -- the three tests of `framed`, one after the other
 abbrev tested : Bool → Bool → Bool → Result Unit FieldFault
@@ -33,9 +31,6 @@ module _ (bs : List ℕ) (at end : ℕ) (may_come : ℕ → Bool) where
   pub size_due : 3 ≤ last - at → size_of due ≡ get_or bs (at + 1) 0 * 256 + get_or bs (at + 2) 0
   size_due h = λ i. byte_due 1 (omega arith) i * 256 + byte_due 2 (omega arith) i
 
-  pub no_byte : last ≤ at → framed may_come due ≡ Err NoFit
-  no_byte h = ap (λ t. tested t (may_come (tag_of due)) (leb (3 + size_of due) (length due))) (eq-eqb (length due) 0 (omega (arith, length_due)))
-
   module _ (some : at < last) where
     some_byte : eqb (length due) 0 ≡ false
     some_byte = ne_eqb (length due) 0 (omega (arith, length_due))
@@ -47,18 +42,5 @@ module _ (bs : List ℕ) (at end : ℕ) (may_come : ℕ → Bool) where
       short : length due < 3 + size_of due → framed may_come due ≡ Err NoFit
       short h = λ i. tested (some_byte i) ((ap may_come (tag_due some) ∙ comes) i) (lt-leb (3 + size_of due) (length due) h i)
 
-      pub no_head : last - at < 3 → framed may_come due ≡ Err NoFit
-      no_head h = short (omega (arith, length_due))
-
       pub no_content : 3 ≤ last - at → last - at - 3 < get_or bs (at + 1) 0 * 256 + get_or bs (at + 2) 0 → framed may_come due ≡ Err NoFit
       no_content head h = short (omega (arith, length_due, size_due head))
-
-      pub fits : 3 ≤ last - at → get_or bs (at + 1) 0 * 256 + get_or bs (at + 2) 0 ≤ last - at - 3 → framed may_come due ≡ Ok tt
-      fits head h = λ i. tested (some_byte i) ((ap may_come (tag_due some) ∙ comes) i) (le-leb (3 + size_of due) (length due) (omega (arith, length_due, size_due head)) i)
-
--- a part, by other names for its length and for itself
-pub same_part : (b p q : Bor (List ℕ)) (from n m : ℕ) → Part b from n p → m ≡ n → q ≡ p → Part b from m q
-same_part b p q from n m h e f = rw (e, f) h
-
-pub same_place : (s : Span) (n m : ℕ) → m ≡ n → ◌≡◌ {A = Span} (record { at = s.at + 3 + n; end = s.end }) (record { at = s.at + (3 + m); end = s.end })
-same_place s n m e = let k : s.at + 3 + n ≡ s.at + (3 + m) = omega arith in λ i. record { at = k i; end = s.end }

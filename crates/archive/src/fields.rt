@@ -47,6 +47,7 @@ pub enum Field<'a> {
 }
 
 impl<'a> Field<'a> {
+    /// The field with that tag and content.
     fn new(tag: Tag, content: &'a [u8]) -> Field<'a>
         ensures tag { field_tag result ≡ tag_number tag }
         ensures part { part_of result ≡ content.entry }
@@ -60,6 +61,7 @@ impl<'a> Field<'a> {
         }
     }
 
+    /// The content, whatever the tag.
     fn content(self) -> &'a [u8]
         ensures { result ≡ part_of self.entry }
     {
@@ -82,7 +84,8 @@ fn part(bytes: &[u8], from: usize, len: usize) -> &[u8]
 }
 
 impl Span {
-    /// Reads the field at the span's place, whose tag has to be one of those that are due, and moves the place behind it. A refusal leaves the span as it was.
+    /// Reads the field at the span's place, whose tag has to be one of those that are due, and moves the place behind it.
+    /// A refusal leaves the span as it was.
     pub(crate) fn read_field<'a>(
         &mut self,
         bytes: &'a [u8],

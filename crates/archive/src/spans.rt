@@ -3,7 +3,8 @@ ghost use Rattle.std.specs.Prelude.{◌≡◌};
 
 /// The bytes from the place `at` to the place `end` are left to read.
 ///
-/// Its methods are lent the archive's bytes: once a guard has borrowed a struct that holds a reference, as to the bytes, no proof knows what is in it.
+/// The bytes are lent to each method and not held here: what is in a struct with a lifetime is not known after a guard
+/// that borrows it is dropped.
 #[derive(Clone, Copy)]
 pub(crate) struct Span {
     pub(crate) at: usize,
