@@ -6,6 +6,8 @@ ghost use Rattle.archive.specs.Writing.{add_number, begin_number, close_number};
 use region::CheckRefusal;
 
 /// An archive that can be added to: its length so far and the number of its plans. It has to be spent.
+///
+/// Mere numbers: the bytes are the caller's, and lent to each call.
 pub struct OpenArchive {
     pub(crate) len: usize,
     pub(crate) plans: u16,
@@ -61,6 +63,7 @@ impl AddRefusal {
     pub fn number(self) -> u8
         ensures { result ≡ add_number self }
     {
+        // By cases: a variant with fields has no number of its own.
         match self {
             AddRefusal::BadTitle => 15,
             AddRefusal::BadPlan(refusal) => refusal.number(),

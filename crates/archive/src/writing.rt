@@ -33,6 +33,7 @@ fn put_head(bytes: &mut [u8], at: usize, tag: Tag, len: usize)
     requires { (at + 3 ≤ length bytes.old) × (len < 65536) }
     ensures { bytes.new ≡ patched bytes.old at (tag_number tag ∷ two_bytes len) }
 {
+    // A cast, since `try_from` would answer an error that there is not.
     let [high, low] = (len as u16).to_be_bytes();
     put(bytes, at, &[tag as u8, high, low]);
 }

@@ -36,6 +36,7 @@ impl PlanFault {
     pub fn number(self) -> u8
         ensures { result ≡ plan_number self }
     {
+        // By cases: a variant with fields has no number of its own.
         match self {
             PlanFault::InField(_, fault) => fault.number(),
             PlanFault::InRows(refusal) => refusal.number(),
@@ -62,6 +63,7 @@ impl ArchiveFault {
     pub fn number(self) -> u8
         ensures { result ≡ fault_number self }
     {
+        // By cases: a variant with fields has no number of its own.
         match self {
             ArchiveFault::AtField(_, fault) => fault.number(),
             ArchiveFault::InPlan(_, _, fault) => fault.number(),
@@ -79,7 +81,7 @@ impl ArchiveFault {
         }
     }
 
-    /// The plan's number from 1, or 0 outside the plans.
+    /// The plan's number from 1, or 0 outside the plans, as the rules name it.
     pub fn plan(self) -> usize
         ensures { result ≡ fault_plan self }
     {

@@ -4,7 +4,7 @@ ghost use Rattle.region.specs.Check.{check_number, fault_number};
 
 use plane::Point;
 
-/// What is wrong with one row by itself.
+/// What is wrong with one row by itself. The discriminant is the number that it goes by.
 #[derive(Clone, Copy, Debug, PartialEq, Eq)]
 pub enum RowFault {
     OutOfRange = 1,
@@ -33,6 +33,7 @@ impl CheckRefusal {
     pub fn number(self) -> u8
         ensures { result ≡ check_number self }
     {
+        // By cases: a variant with fields has no number of its own.
         match self {
             CheckRefusal::BadRow(_, fault) => fault.number(),
             CheckRefusal::Unsorted(_) => 7,

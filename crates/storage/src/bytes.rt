@@ -9,7 +9,7 @@ use plane::{Halfsegment, Point};
 /// How many bytes a row takes.
 pub const ROW_BYTES: usize = 16;
 
-/// The row that sixteen bytes are.
+/// The row that sixteen bytes are. No `From`, here and below: neither the row nor the array is a type of this crate.
 fn row_from(bytes: &[u8; ROW_BYTES]) -> Halfsegment
     ensures { result ≡ row_at_byte bytes.now 0 }
 {

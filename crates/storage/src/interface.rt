@@ -29,6 +29,7 @@ impl InsertRefusal {
     pub fn number(self) -> u8
         ensures { result ≡ insert_number self }
     {
+        // By cases: a variant with fields has no number of its own.
         match self {
             InsertRefusal::NoPlace(fault) => fault.number(),
             InsertRefusal::NoRoom => 5,

@@ -7,6 +7,8 @@ use crate::gaps::{close_gap, open_gap};
 use plane::Halfsegment;
 
 /// Blocks of `N` entries, one after the other at the front of a lent slice, of which there are never more than `limit`.
+///
+/// A slice with a count, and no `Vec`: a store lies in its caller's memory.
 #[derive(Drop)]
 pub(crate) struct Kept<'a, E, const N: usize> {
     items: &'a mut [E],
