@@ -130,6 +130,7 @@ impl<'a> Reader<'a> {
         ensures after { self.new ≡ stepped self.old result }
     {
         let mut span = self.span;
+        // As in `told`: a ghost field for the bound would stand as a proof in each clause that gives a reader as a record.
         let plans = self.plans.min(span.at);
         let next = span.read_next(self.bytes, plans)?;
         if next.is_some() {

@@ -25,6 +25,7 @@ impl TryFrom<u8> for Tag {
     ghost try_from_gives = { Decodes };
 
     fn try_from(byte: u8) -> Result<Self, FieldFault> {
+        // A pattern cannot name a discriminant.
         match byte {
             0x01 => Ok(Tag::Date),
             0x20 => Ok(Tag::Plan),
@@ -36,7 +37,8 @@ impl TryFrom<u8> for Tag {
     }
 }
 
-/// A field by its tag, with its content.
+/// A field by its tag, with its content. The cases are those of `Tag` once more, since each holds its own part of the bytes: one of the
+/// fixed forms (docs/DECISIONS.md).
 #[derive(Clone, Copy)]
 pub enum Field<'a> {
     Date(&'a [u8]),

@@ -33,7 +33,7 @@ impl Span {
         Ok(title)
     }
 
-    /// The rows, whose field is due.
+    /// The rows, whose field is due: at most 4,000 of them.
     fn read_rows<'a>(&mut self, bytes: &'a [u8]) -> Result<PlanView<'a>, FieldFault>
         ensures value { seen_rows result ≡ with_content rows_tag rows_in (left bytes.now self.old) }
         ensures part { RowsPart bytes.entry (self.old.at + 3) result }

@@ -3,8 +3,8 @@ ghost use Rattle.std.specs.Prelude.{◌≡◌};
 
 /// The bytes from the place `at` to the place `end` are left to read.
 ///
-/// The bytes are lent to each method and not held here: what is in a struct with a lifetime is not known after a guard
-/// that borrows it is dropped.
+/// Its methods are lent the archive's bytes, and it does not hold them: the guard borrows this record alone, one of the fixed forms
+/// (docs/DECISIONS.md).
 #[derive(Clone, Copy)]
 pub(crate) struct Span {
     pub(crate) at: usize,

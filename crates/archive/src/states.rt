@@ -13,7 +13,7 @@ pub struct OpenArchive {
     pub(crate) plans: u16,
 }
 
-/// A finished archive. Nothing can be added to it.
+/// A finished archive, by its length. Nothing can be added to it; the bytes are the caller's.
 #[derive(Clone, Copy, Debug, PartialEq, Eq)]
 pub struct ClosedArchive {
     pub(crate) len: usize,
@@ -47,6 +47,7 @@ impl BeginRefusal {
     pub fn number(self) -> u8
         ensures { result ≡ begin_number self }
     {
+        // In each such enum, since a cast asks for the enum itself.
         self as u8
     }
 }
@@ -88,6 +89,7 @@ impl CloseRefusal {
     pub fn number(self) -> u8
         ensures { result ≡ close_number self }
     {
+        // A struct without fields has no discriminant.
         14
     }
 }

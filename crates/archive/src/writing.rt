@@ -19,7 +19,8 @@ const DATE_FIELD: usize = HEAD + 4;
 /// How many bytes the last field takes.
 const LAST_FIELD: usize = HEAD + 2;
 
-/// Writes the new bytes over the old ones from the place `at` on.
+/// Writes the new bytes over the old ones from the place `at` on. What writes is told the place, since a cursor over the rest would owe
+/// the same room, and leave the bytes before it unsaid.
 fn put(bytes: &mut [u8], at: usize, new: &[u8])
     requires { at + length new.now ≤ length bytes.old }
     ensures { bytes.new ≡ patched bytes.old at new.now }

@@ -21,6 +21,7 @@ impl FieldFault {
     pub fn number(self) -> u8
         ensures { result ≡ field_number self }
     {
+        // In each such enum, since a cast asks for the enum itself.
         self as u8
     }
 }
@@ -36,7 +37,6 @@ impl PlanFault {
     pub fn number(self) -> u8
         ensures { result ≡ plan_number self }
     {
-        // By cases: a variant with fields has no number of its own.
         match self {
             PlanFault::InField(_, fault) => fault.number(),
             PlanFault::InRows(refusal) => refusal.number(),
@@ -63,7 +63,6 @@ impl ArchiveFault {
     pub fn number(self) -> u8
         ensures { result ≡ fault_number self }
     {
-        // By cases: a variant with fields has no number of its own.
         match self {
             ArchiveFault::AtField(_, fault) => fault.number(),
             ArchiveFault::InPlan(_, _, fault) => fault.number(),

@@ -6,7 +6,7 @@ ghost use Rattle.partition.specs.Theorems.{CountsEarlier, EachCodeOnce, JoinsNum
 
 use crate::codes::Coded;
 
-/// The first place with the code `c`, or the count of places where there is none.
+/// The first place with the code `c`, or the count of places where there is none: it serves as a code, and one that stands is found.
 pub fn first_place<F, T: Coded<F>>(labels: &[T], c: usize) -> usize
     ensures { result ≡ place_of (map T.code labels.now) c }
 {
@@ -35,7 +35,7 @@ fn number_places<F, T: Coded<F>>(labels: &mut [T]) -> usize
     ensures count { result ≡ count_of (map T.code labels.old) }
 {
     let mut count = 0;
-    // By place: what is written at one place is read at an earlier one.
+    // By place: each step reads what an earlier one wrote elsewhere in the slice.
     for i in 0..labels.len() {
         let x = labels[i];
         let first = x.code();

@@ -17,7 +17,7 @@ use Rattle.plane.specs.PointLaws.{same_point_is, eq_int_is}
 use Rattle.plane.specs.RowChains.{no_turn}
 use Rattle.plane.proofs.RowOrder.{one_row, row_order}
 use Rattle.plane.proofs.Steps.{point_first}
-use Rattle.plane.specs.RowLaws.{same_row_is, same_row_holds, long, by_tests}
+use Rattle.plane.specs.RowLaws.{same_row_is, same_row_holds, fit_long, by_tests}
 
 -- by point, by side, by turn, by length
 abbrev steps : Ordering → Ordering → Ordering → Ordering → Ordering
@@ -78,7 +78,7 @@ before g h =
 level : (g h : Halfsegment) → fit g ≡ true → fit h ≡ true → answer g h ≡ Equal → g ≡ h
 level g h fg fh e =
     let s = all_steps (point_order.ghosts.cmp g.dominating h.dominating) (left g) (left h) (int_cmp (pos 0) (orientation g.far h.far g.dominating)) (int_cmp (reach g) (reach h)) e in
-    one_row g h (long g fg) (long h fh)
+    one_row g h (fit_long g fg) (fit_long h fh)
     (same_point_is g.dominating h.dominating (sym (point_same g.dominating h.dominating) ∙ s.0)) s.1
     (eq_int_is (orientation g.far h.far g.dominating) (pos 0) (sym (zero_is (orientation g.far h.far g.dominating)) ∙ s.2))
     (eq_int_is (reach g) (reach h) (sym (equal_is (reach g) (reach h)) ∙ s.3))
@@ -113,5 +113,5 @@ steps_compare g h fg fh = go (case (same_row g h))
     go (holds e) = ap (λ r. Some (answer g r)) (sym (same_row_is g h e)) ∙ ap Some (level_self g) ∙ alike g h e
     go (fails n) =
         decided (answer g h) (comes_before g h) (comes_before h g) (λ e. apart (same_row_holds g h (level g h fg fh e)) n) (before g h)
-        (row_order.comparable g h (long g fg) (long h fh) (λ e. apart (same_row_holds g h e) n))
+        (row_order.comparable g h (fit_long g fg) (fit_long h fh) (λ e. apart (same_row_holds g h e) n))
         ∙ (λ i. by_tests (sym n i) (sym (and_from (fit g) (fit h) fg fh) i) (comes_before g h) (comes_before h g))

@@ -4,29 +4,16 @@ use Rattle.std.proofs.lemmas.Bool.{and_parts, and_from}
 use Rattle.algebra.specs.Polynomial.{con, var, ◌⊗◌}
 use Rattle.algebra.proofs.Ring.{ring}
 use Rattle.algebra.proofs.Signs.{lin, mul_le, mul_lt}
-use Rattle.algebra.proofs.Members.{Case, holds, fails, case, apart}
+use Rattle.algebra.proofs.Members.{Case, holds, fails, case}
 use Rattle.plane.specs.declared.segment.Segment.{Segment}
 use Rattle.plane.specs.declared.halfsegment.Halfsegment.{Halfsegment}
 use Rattle.plane.specs.Points.{in_range, same_point, orientation}
 use Rattle.plane.specs.Spots.{Around, MeetImproperly}
-use Rattle.plane.specs.Rows.{left, twin, segment_of, fit, same_row, Long}
+use Rattle.plane.specs.Rows.{left, twin, segment_of, fit, Long}
 use Rattle.plane.specs.Meeting.{opposite, inside, improper, ordered, drawable}
-use Rattle.plane.specs.PointLaws.{same_point_is, same_point_holds, before_of, rightward, precedes_back, precedes_comparable}
+use Rattle.plane.specs.PointLaws.{before_of, rightward, precedes_back, precedes_comparable}
+use Rattle.plane.specs.RowLaws.{fit_long}
 use Rattle.plane.proofs.Meetings.{signs_tell}
-
-pub same_row_is : (g h : Halfsegment) → same_row g h ≡ true → g ≡ h
-same_row_is g h e =
-    let p = and_parts (same_point g.dominating h.dominating) (same_point g.far h.far) e in
-    λ i. record { dominating = same_point_is g.dominating h.dominating p.0 i; far = same_point_is g.far h.far p.1 i }
-
-pub same_row_holds : (g h : Halfsegment) → g ≡ h → same_row g h ≡ true
-same_row_holds g h e =
-    and_from (same_point g.dominating h.dominating) (same_point g.far h.far) (same_point_holds g.dominating h.dominating (ap (λ r. r.dominating) e)) (same_point_holds g.far h.far (ap (λ r. r.far) e))
-
-pub fit_long : (h : Halfsegment) → fit h ≡ true → Long h
-fit_long h e q =
-    let p = and_parts (in_range h.dominating && in_range h.far) (not (same_point h.dominating h.far)) e in
-    apart p.1 (ap not (same_point_holds h.dominating h.far q))
 
 -- a left halfsegment is its segment from the lesser end
 pub segment_left : (h : Halfsegment) → left h ≡ true → segment_of h ≡ record { low = h.dominating; high = h.far }

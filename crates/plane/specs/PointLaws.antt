@@ -33,9 +33,6 @@ pub same_point_holds : (p q : Point) → p ≡ q → same_point p q ≡ true
 same_point_holds p q e =
     and_from (eq_int p.x q.x) (eq_int p.y q.y) (eq_int_holds p.x q.x (xs_of e)) (eq_int_holds p.y q.y (ys_of e))
 
-pub same_point_decides : (p q : Point) → Decides (same_point p q) (p ≡ q)
-same_point_decides p q = (same_point_is p q, same_point_holds p q)
-
 -- the order as a proposition
 abbrev pub Before : Point → Point → Type 0
 Before p q = (p.x <ℤ q.x) ⊎ ((p.x ≡ q.x) × (p.y <ℤ q.y))

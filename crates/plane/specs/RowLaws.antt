@@ -26,15 +26,15 @@ same_row_holds g h e =
     and_from (same_point g.dominating h.dominating) (same_point g.far h.far)
     (same_point_holds g.dominating h.dominating (ap (λ r. r.dominating) e)) (same_point_holds g.far h.far (ap (λ r. r.far) e))
 
-pub long : (h : Halfsegment) → fit h ≡ true → Long h
-long h e same = apart (same_point_holds h.dominating h.far same) (not-true (same_point h.dominating h.far) (and_parts (in_range h.dominating && in_range h.far) (not (same_point h.dominating h.far)) e).1)
+pub fit_long : (h : Halfsegment) → fit h ≡ true → Long h
+fit_long h e same = apart (same_point_holds h.dominating h.far same) (not-true (same_point h.dominating h.far) (and_parts (in_range h.dominating && in_range h.far) (not (same_point h.dominating h.far)) e).1)
 
 -- of two fit ones, each in only one order
 never_back : (g h : Halfsegment) → fit g ≡ true → fit h ≡ true → comes_before g h ≡ true → comes_before h g ≡ false
 never_back g h fg fh e = go (case (comes_before h g))
   where
     go : Case (comes_before h g) → comes_before h g ≡ false
-    go (holds f) = absurd (apart (comes_before_transitive g h g (long g fg) (long h fh) (long g fg) e f) (comes_before_self g))
+    go (holds f) = absurd (apart (comes_before_transitive g h g (fit_long g fg) (fit_long h fh) (fit_long g fg) e f) (comes_before_self g))
     go (fails f) = f
 
 -- the answer from its four tests
@@ -90,7 +90,7 @@ laws = record {
     chain g h k p q =
         let b = and_parts (fit g) (fit h) p.1 in
         let d = and_parts (fit h) (fit k) q.1 in
-        let e = comes_before_transitive g h k (long g b.0) (long h b.1) (long k d.1) p.2 q.2 in
+        let e = comes_before_transitive g h k (fit_long g b.0) (fit_long h b.1) (fit_long k d.1) p.2 q.2 in
         λ i. by_tests (differ g k e i) (and_from (fit g) (fit k) b.0 d.1 i) (e i) (comes_before k g)
 
 -- `==`, which is derived; the laws of the order; and `<`

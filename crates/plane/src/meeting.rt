@@ -13,7 +13,7 @@ fn are_opposite(u: i64, v: i64) -> bool
     (u < 0 && 0 < v) || (0 < u && v < 0)
 }
 
-/// A segment whose ends are in range, the lesser first.
+/// A segment whose ends are in range, the lesser first. Apart from a halfsegment that is fit, since a ghost field is part of its type.
 #[derive(Clone, Copy)]
 struct DrawableSegment {
     segment: Segment,
@@ -43,7 +43,7 @@ impl DrawableSegment {
         )
     }
 
-    /// Whether a point on that side of the segment lies on it and is not an end of it.
+    /// Whether a point, of which `sides` told the side, lies on the segment and is not an end of it.
     fn is_inside(self, p: Point, side: i64) -> bool
         ensures { result ≡ (precedes self.segment.low p && (precedes p self.segment.high && eq_int side (pos 0))) }
     {

@@ -13,7 +13,7 @@ pub enum LineFault {
     NoRoom(usize),
 }
 
-/// The lines of a text, each without its line feed.
+/// The lines of a text, each without its line feed. Over `split_inclusive` each loop would have to prove what `next` proves here once.
 #[derive(Drop)]
 struct Lines<'a> {
     rest: &'a [u8],

@@ -12,7 +12,8 @@ use Rattle.plane.specs.Spots.{MeetImproperly}
 use Rattle.plane.specs.Meeting.{ordered}
 use Rattle.plane.proofs.RowOrder.{row_order}
 use Rattle.plane.specs.PointLaws.{precedes_back}
-use Rattle.plane.proofs.Segments.{fit_long, left_or_twin, segment_left, segment_ordered}
+use Rattle.plane.specs.RowLaws.{fit_long}
+use Rattle.plane.proofs.Segments.{left_or_twin, segment_left, segment_ordered}
 use Rattle.reading.specs.Reading.{Planar, HasReading, OneReading}
 use Rattle.reading.specs.Counting.{ends, degree_at, ClosedLines}
 use Rattle.reading.proofs.Decided.{one_or_none, closed_reads}

@@ -12,7 +12,8 @@ use Rattle.plane.specs.Points.{precedes, same_point}
 use Rattle.plane.specs.Rows.{left, twin, same_row, segment_of, earlier, comes_before, Long}
 use Rattle.plane.specs.Meeting.{improper, drawable}
 use Rattle.plane.specs.PointLaws.{before_of, rightward, same_point_is, xs_of}
-use Rattle.plane.proofs.Segments.{same_row_is, same_row_holds, fit_long, left_or_twin, segment_left, segment_twin, segment_ordered, segment_drawable, improper_back, improper_self, improper_apart}
+use Rattle.plane.specs.RowLaws.{same_row_is, same_row_holds, fit_long}
+use Rattle.plane.proofs.Segments.{left_or_twin, segment_left, segment_twin, segment_ordered, segment_drawable, improper_back, improper_self, improper_apart}
 use Rattle.region.specs.declared.refusals.CheckRefusal.TheVariants.{Improper}
 use Rattle.region.specs.Plans.{Rising}
 use Rattle.region.specs.Check.{no_row, row, crowded, meetings_answer}

@@ -12,7 +12,8 @@ use Rattle.plane.specs.Rows.{fit, twin, same_row, segment_of, earlier, comes_bef
 use Rattle.plane.specs.Spots.{MeetImproperly}
 use Rattle.plane.specs.Meeting.{improper}
 use Rattle.plane.specs.PointLaws.{same_point_is, precedes_self, precedes_back}
-use Rattle.plane.proofs.Segments.{same_row_is, same_row_holds, fit_long, segment_ordered}
+use Rattle.plane.specs.RowLaws.{same_row_is, same_row_holds, fit_long}
+use Rattle.plane.proofs.Segments.{segment_ordered}
 use Rattle.plane.proofs.RowOrder.{row_order}
 use Rattle.plane.proofs.Meetings.{signs_tell}
 use Rattle.region.specs.declared.refusals.RowFault.{RowFault}

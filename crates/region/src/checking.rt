@@ -42,6 +42,7 @@ fn check_order<S: Source>(s: &S) -> Result<(), CheckRefusal>
 {
     let mut neighbours = Rows::from_place(s, 0).zip(Rows::from_place(s, 1));
     neighbours
+        // Not `>=`: rows that are not fit are in no order.
         .position(|(g, h)| !(g < h))
         .map_or(Ok(()), |i| Err(CheckRefusal::Unsorted(i + 1)))
 }
@@ -50,6 +51,7 @@ fn check_order<S: Source>(s: &S) -> Result<(), CheckRefusal>
 fn has_row<S: Source>(s: &S, h: Halfsegment) -> bool
     ensures { result ≡ stands (S.rows s.now) h }
 {
+    // From the first row on, since a source is no slice; the search for meetings takes as long.
     Rows::of(s).any(|g| g == h)
 }
 
@@ -70,6 +72,7 @@ fn check_meetings<S: Source>(s: &S) -> Result<(), CheckRefusal>
     requires twins { Nowhere (length (S.rows s.now)) (Twinless (S.rows s.now)) }
     ensures { result ≡ meetings_answer (S.rows s.now) }
 {
+    // A search through pairs that is left by its label is one of the fixed forms (docs/DECISIONS.md).
     let mut found = Ok(());
     'search: for (i, h) in Rows::of(s).enumerate() {
         let l = h.segment();

@@ -15,6 +15,7 @@ impl RowFault {
     pub fn number(self) -> u8
         ensures { result ≡ fault_number self }
     {
+        // In each such enum, since a cast asks for the enum itself.
         self as u8
     }
 }

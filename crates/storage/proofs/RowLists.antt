@@ -31,28 +31,7 @@ remove_stands xs ys i within e = record {
   stands = e;
 }
 
--- the `i + 1` of code is the `suc i` of a list
-pub removed_is : {X : Type 0} (xs ys : List X) (i : ℕ) → ys ≡ take i xs ++ drop (i + 1) xs → ys ≡ remove xs i
-removed_is xs ys i e = rw (add-one i) at e
-
-pub insert_no_place : (xs : List Halfsegment) (room i : ℕ) (row : Halfsegment) → length xs < i → Inserted xs room i row (Err (NoPlace no_such_place)) xs
-insert_no_place xs room i row past = record { answer = rw (lt-ltb (length xs) i past); stands = refl }
-
-pub insert_no_room : (xs : List Halfsegment) (room i : ℕ) (row : Halfsegment) → i ≤ length xs → room ≤ length xs → Inserted xs room i row (Err NoRoom) xs
-insert_no_room xs room i row within full = record {
-  answer = rw (le-ltb (length xs) i within, le-ltb (length xs) room full);
-  stands = refl;
-}
-
-pub remove_no_place : (xs : List Halfsegment) (i : ℕ) → length xs ≤ i → Removed xs i (Err no_such_place) xs
-remove_no_place xs i past = record { answer = rw (le-ltb i (length xs) past); stands = refl }
-
 -- for callers: what an answer says of the list
-pub row_at_read : (xs : List Halfsegment) (i : ℕ) (r d : Halfsegment) → Ok r ≡ row_at xs i → get_or xs i d ≡ r
-row_at_read [] i r d e = absurd (grind arith)
-row_at_read (x ∷ xs) zero r d e = cc
-row_at_read (x ∷ xs) (suc i) r d e = row_at_read xs i r d e
-
 pub row_at_past : (xs : List Halfsegment) (i : ℕ) (f : NoSuchPlace) → Err f ≡ row_at xs i → length xs ≤ i
 row_at_past [] i f e = omega arith
 row_at_past (x ∷ xs) zero f e = absurd (grind arith)

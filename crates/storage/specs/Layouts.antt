@@ -1,4 +1,4 @@
--- The two layouts: a row as an entry, and a row in sixteen bytes.
+-- The two layouts: a row as an entry, and a row in sixteen bytes. They stand in specs/ because the impls of `Entry` cite them as their law.
 use Rattle.std.specs.Prelude.{◌≡◌, ℕ, ◌+◌, ◌-◌, ◌*◌, ◌/◌, ◌%◌, ◌<◌, List, [], ◌∷◌, ◌++◌, length, ℤ, FitsSigned, refl}
 use Rattle.std.specs.Int.{w32, cast_signed, cast_unsigned}
 use Rattle.std.proofs.Common.{get_or, sym, ap, ◌∙◌, ⊎_elim, add-zero, add_assoc, arith, rules, length-append}

@@ -55,6 +55,7 @@ impl Entry<ROW_BYTES> for u8 {
     ghost layout = { byte_layout };
 
     fn read(entries: &[u8]) -> Halfsegment {
+        // Sixteen bytes hold one row.
         row_at(entries, 0).unwrap()
     }
 

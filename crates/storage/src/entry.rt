@@ -5,7 +5,7 @@ ghost use Rattle.storage.specs.Layout.{IsLayout};
 
 use plane::Halfsegment;
 
-/// What lent memory is made of: `N` entries hold a row. Other crates cannot name it, so no call of theirs owes a length.
+/// What lent memory is made of: `N` entries hold a row. It is not public, so that no public function has a precondition.
 pub(crate) trait Entry<const N: usize>: Copy {
     // The rows that lie in entries, one after the other.
     ghost rows_of: { List Self → List Halfsegment };

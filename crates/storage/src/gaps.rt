@@ -1,4 +1,4 @@
-//! Making space at a place and closing up: the same work for every kind of entry. Two functions, since what is asked and what is left differ.
+//! Making space at a place and closing up: the same work for every kind of entry, and one of the fixed forms (docs/DECISIONS.md).
 ghost use Rattle.std.specs.Prelude.{◌≡◌, ℕ, ◌+◌, ◌≤◌, length};
 ghost use Rattle.storage.specs.Gaps.{closed, opened};
 

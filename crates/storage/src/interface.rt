@@ -14,6 +14,7 @@ impl NoSuchPlace {
     pub fn number(self) -> u8
         ensures { result ≡ place_number self }
     {
+        // A struct without fields has no discriminant.
         16
     }
 }
@@ -58,6 +59,8 @@ pub trait Source {
 }
 
 /// A source that can be changed. Its room is the largest count, and never changes.
+///
+/// Each call says so of the store that it leaves, since an interface has no invariant.
 pub trait Store: Source {
     ghost room: { Self → ℕ };
 

@@ -8,7 +8,7 @@ use plane::Halfsegment;
 
 /// Blocks of `N` entries, one after the other at the front of a lent slice, of which there are never more than `limit`.
 ///
-/// A slice with a count, and no `Vec`: a store lies in its caller's memory.
+/// A slice with a count, and no `Vec`, since a store lies in its caller's memory: one of the fixed forms (docs/DECISIONS.md).
 #[derive(Drop)]
 pub(crate) struct Kept<'a, E, const N: usize> {
     items: &'a mut [E],

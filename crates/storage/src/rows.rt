@@ -44,6 +44,7 @@ impl<'a, S: Source> Iterator for Rows<'a, S> {
 
     fn next(&mut self) -> Option<Halfsegment> {
         let place = self.places.next()?;
+        // There is a row at each place below the count, and that is proved.
         let Ok(row) = self.source.row(place) else {
             return None
         };

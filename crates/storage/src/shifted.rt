@@ -79,6 +79,7 @@ impl<S: Source> Source for ShiftedStore<S> {
     }
 }
 
+// `insert` and `remove` tell the interface's clauses again: a method with a clause of its own has its own alone.
 impl<S: Store> Store for ShiftedStore<S> {
     ghost room = { λ s. S.room s.inner };
 

@@ -53,6 +53,7 @@ impl<'a, E: Entry<N>, const N: usize> Source for RowStore<'a, E, N> {
     }
 }
 
+// `insert` and `remove` tell the interface's clauses again: a method with a clause of its own has its own alone.
 impl<'a, E: Entry<N>, const N: usize> Store for RowStore<'a, E, N> {
     ghost room = { λ s. limit s.kept };
 
