@@ -9,4 +9,4 @@ mod verdicts;
 pub use lines::parse_row;
 pub use numbers::parse_number;
 pub use plans::{LineFault, read_rows};
-pub use verdicts::VerdictLine;
+pub use verdicts::{Named, VerdictLine};
