@@ -3,6 +3,8 @@
 
 mod faults;
 mod round;
+mod unpacking;
 
 pub use faults::{LineFault, PackFault};
 pub use round::text_stands_for_archive;
+pub use unpacking::unpack;
