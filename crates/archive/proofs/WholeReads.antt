@@ -34,7 +34,7 @@ pub record ReadSoFar (bs : List ℕ) (d : Date) (r : Reader) : Type 0 where
   pub rest : summed (read_of bs) ≡ ended_with d r.plans (plans_in (length bs - r.plans) r.span.at r.plans (left bs r.span))
 
 -- after the date
-all_past : (bs : List ℕ) (n : ℕ) → between n (length bs) bs ≡ drop n bs
+pub all_past : (bs : List ℕ) (n : ℕ) → between n (length bs) bs ≡ drop n bs
 all_past bs n = same_lists _ _ (search (rules, places)) (λ k d l. grind (arith, places))
 
 with_date : (d : Date) (x : Result (List Plan) ArchiveFault) → summed (and_then x (λ ps. Ok (record { date = d; plans = ps }))) ≡ ended_with d 0 x
@@ -58,11 +58,11 @@ opened b d r h =
     })
 
 -- the plans that follow, by what comes next; there are never more than bytes
-abbrev following : ℕ → ℕ → ℕ → List ℕ → Option Plan → Result (List Plan) ArchiveFault
+abbrev pub following : ℕ → ℕ → ℕ → List ℕ → Option Plan → Result (List Plan) ArchiveFault
 following most place k due None = Ok []
 following most place k due (Some plan) = and_then (plans_in most (place + (3 + size_of due)) (suc k) (beyond due)) (λ later. Ok (plan ∷ later))
 
-plans_by : (most place k : ℕ) (due : List ℕ) → length due ≤ most → plans_in most place k due ≡ and_then (next_in place k due) (following (most - 1) place k due)
+pub plans_by : (most place k : ℕ) (due : List ℕ) → length due ≤ most → plans_in most place k due ≡ and_then (next_in place k due) (following (most - 1) place k due)
 plans_by zero place k [] h = refl
 plans_by zero place k (b ∷ due) h = absurd (omega arith)
 plans_by (suc most) place k due h = let n : most ≡ suc most - 1 = omega arith in ap (λ m. and_then (next_in place k due) (following m place k due)) n
@@ -73,16 +73,16 @@ counted_on d k plan (Err fault) = refl
 
 module _ (bs : List ℕ) (d : Date) (r : Reader) (so : ReadSoFar bs d r) where
   -- what is left, and what comes next there
-  abbrev due : List ℕ
+  abbrev pub due : List ℕ
   due = left bs r.span
 
-  told_is : told r ≡ r.plans
+  pub told_is : told r ≡ r.plans
   told_is = omega (arith, so.few)
 
   same_left : left r.bytes.now r.span ≡ due
   same_left = ap (λ xs. left xs r.span) so.bytes
 
-  next_is : next_in r.span.at (told r) (left r.bytes.now r.span) ≡ next_in r.span.at r.plans due
+  pub next_is : next_in r.span.at (told r) (left r.bytes.now r.span) ≡ next_in r.span.at r.plans due
   next_is = (λ i. next_in r.span.at (told_is i) (same_left i))
 
   rest_by : (x : Result (Option Plan) ArchiveFault) → x ≡ next_in r.span.at (told r) (left r.bytes.now r.span) → summed (read_of bs) ≡ ended_with d r.plans (and_then x (following (length bs - r.plans - 1) r.span.at r.plans due))

@@ -45,12 +45,12 @@ days_le year month = by (eqb month 2) (leap year) (of_thirty month)
     by false l false = omega arith
 
 -- the numbers of a date have four, two and two digits
-record Short (d : Date) : Type 0 where
+pub record Short (d : Date) : Type 0 where
   pub year : d.year < 10000
   pub month : d.month < 100
   pub day : d.day < 100
 
-short : (d : Date) → valid_date d ≡ true → Short d
+pub short : (d : Date) → valid_date d ≡ true → Short d
 short d e =
     let p = and_parts (leb 1950 d.year && leb d.year 2199) _ e in
     let y = leb-true d.year 2199 (and_parts (leb 1950 d.year) (leb d.year 2199) p.0).1 in

@@ -3,3 +3,5 @@ pub mod Lines
 pub mod Dates
 pub mod Backs
 pub mod Sounds
+pub mod Unpacks
+pub mod DateLines
