@@ -1,3 +1,4 @@
 pub mod Text
 pub mod Pack
+pub mod Packing
 pub mod Round

@@ -2,7 +2,13 @@
 #![tactic(auto)]
 
 mod faults;
+mod filling;
+mod growing;
+mod heads;
+mod packing;
 mod round;
+mod splitting;
 
-pub use faults::{LineFault, PackFault};
+pub use faults::{LineFault, PackError, PackFault};
+pub use packing::pack;
 pub use round::text_stands_for_archive;
