@@ -1,6 +1,7 @@
 -- From step to step of packing: what a plan that was read, added or refused says of the whole text.
-use Rattle.std.proofs.Common.{◌≡◌, ℕ, suc, ◌<◌, List, [], ◌∷◌, length, Some, None, Ok, Err, Result, sym, ap, ◌∙◌, subst, arith, Bor}
+use Rattle.std.proofs.Common.{◌≡◌, ℕ, suc, ◌<◌, List, [], ◌∷◌, length, Some, None, Ok, Err, Option, Result, sym, ap, ◌∙◌, subst, arith, Bor}
 use Rattle.std.specs.Global.{Vec}
+use Rattle.std.specs.Result.{IsErrAnd}
 use Rattle.plane.specs.declared.halfsegment.Halfsegment.{Halfsegment}
 use Rattle.encoding.specs.declared.dates.Date.{Date}
 use Rattle.encoding.specs.Format.{Plan, Archive, encoded}
@@ -13,8 +14,19 @@ use Rattle.archivetext.specs.declared.splitting.Lines.{Lines}
 use Rattle.archivetext.specs.declared.packing.PlanLines.{PlanLines}
 use Rattle.archivetext.specs.declared.growing.Growing.{Growing}
 use Rattle.archivetext.specs.Pack.{title_of_line, with_plan, rows_on, archive_of}
-use Rattle.archivetext.specs.Packing.{Packed, left, number, plans_after, RowsRead, PlanRead, plan_of, Added}
+use Rattle.archivetext.specs.Packing.{Packed, Split, left, number, plans_after, RowsRead, PlanRead, plan_of, Added}
 use Rattle.archivetext.proofs.Steps.{some_pieces, plans_title}
+
+-- what `?` hands on
+pub handed : {A : Type 0} (r : Result A PackError) (error : PackError) → IsErrAnd r (λ e. e ≡ error) → r ≡ Err error
+handed (Ok a) error is = absurd is
+handed (Err e) error is = ap Err is
+
+pub read_as : (s : Lines) (found other : Option (PlanLines × Lines)) → PlanRead s (Ok found) → found ≡ other → PlanRead s (Ok other)
+read_as s found other read is = subst (λ o. PlanRead s (Ok o)) is read
+
+pub split_some : (s : Lines) (r : Option (Bor (List ℕ) × Lines)) (line : Bor (List ℕ)) (t : Lines) → Split s r → r ≡ Some (line, t) → Split s (Some (line, t))
+split_some s r line t split is = subst (Split s) is split
 
 pub rows_refused : (s : Lines) (fault : PackFault) (error : PackError) → error ≡ Refused fault → ((start : ℕ) (title : List ℕ) (done : List Plan) → rows_on start title (number s) [] done (left s) ≡ Err fault) → RowsRead s (Err error)
 rows_refused s fault error e h = subst (λ x. RowsRead s (Err x)) (sym e) h
@@ -31,8 +43,9 @@ module _ (s t : Lines) (l title : List ℕ) (cut : left s ≡ l ∷ left t) (nex
   plan_refused (Refused fault) r = λ done. begins done ∙ r (number s) title done
   plan_refused OutOfMemory r = tt
 
-  pub plan_read : (rows : Vec Halfsegment) (u : Lines) → RowsRead t (Ok (rows, u)) → (done : List Plan) → plans_after (number s) done (left s) ≡ and_then (with_plan (number s) done record { title = title; rows = rows.items }) (λ more. plans_after (number u) more (left u))
-  plan_read rows u r done = begins done ∙ r.2 (number s) title done
+  pub plan_read : (rows : Vec Halfsegment) (u : Lines) → RowsRead t (Ok (rows, u)) → (n : ℕ) → n ≡ number s → (done : List Plan) → plans_after (number s) done (left s) ≡ and_then (with_plan n done record { title = title; rows = rows.items }) (λ more. plans_after (number u) more (left u))
+  plan_read rows u r n e done =
+      begins done ∙ r.2 (number s) title done ∙ ap (λ k. and_then (with_plan k done record { title = title; rows = rows.items }) (λ more. plans_after (number u) more (left u))) (sym e)
 
 -- the archive holds the plans that were read, and the whole text stands for what is read behind them
 abbrev pub Going : List ℕ → Lines → Growing → Type 0
