@@ -1,5 +1,5 @@
 -- From step to step of packing: what a plan that was read, added or refused says of the whole text.
-use Rattle.std.proofs.Common.{◌≡◌, ℕ, suc, ◌<◌, List, [], ◌∷◌, length, Some, None, Ok, Err, Option, Result, sym, ap, ◌∙◌, subst, arith, Bor}
+use Rattle.std.proofs.Common.{◌≡◌, ℕ, suc, List, [], ◌∷◌, Some, None, Ok, Err, Option, Result, sym, ap, ◌∙◌, subst, Bor}
 use Rattle.std.specs.Global.{Vec}
 use Rattle.std.specs.Result.{IsErrAnd}
 use Rattle.plane.specs.declared.halfsegment.Halfsegment.{Halfsegment}
@@ -9,12 +9,12 @@ use Rattle.encoding.specs.Read.{and_then}
 use Rattle.archive.specs.Writing.{Holds}
 use Rattle.archivetext.specs.declared.faults.PackFault.{PackFault}
 use Rattle.archivetext.specs.declared.faults.PackError.{PackError}
-use Rattle.archivetext.specs.declared.faults.PackError.TheVariants.{Refused, OutOfMemory}
+use Rattle.archivetext.specs.declared.faults.PackError.TheVariants.{AtLine, OutOfMemory}
 use Rattle.archivetext.specs.declared.splitting.Lines.{Lines}
 use Rattle.archivetext.specs.declared.packing.PlanLines.{PlanLines}
 use Rattle.archivetext.specs.declared.growing.Growing.{Growing}
 use Rattle.archivetext.specs.Pack.{title_of_line, with_plan, rows_on, archive_of}
-use Rattle.archivetext.specs.Packing.{Packed, Split, left, number, plans_after, RowsRead, PlanRead, plan_of, Added}
+use Rattle.archivetext.specs.Packing.{Packed, Split, left, number, plans_after, RowsRead, PlanRead, Added}
 use Rattle.archivetext.proofs.Steps.{some_pieces, plans_title}
 
 -- what `?` hands on
@@ -28,10 +28,10 @@ read_as s found other read is = subst (λ o. PlanRead s (Ok o)) is read
 pub split_some : (s : Lines) (r : Option (Bor (List ℕ) × Lines)) (line : Bor (List ℕ)) (t : Lines) → Split s r → r ≡ Some (line, t) → Split s (Some (line, t))
 split_some s r line t split is = subst (Split s) is split
 
-pub rows_refused : (s : Lines) (fault : PackFault) (error : PackError) → error ≡ Refused fault → ((start : ℕ) (title : List ℕ) (done : List Plan) → rows_on start title (number s) [] done (left s) ≡ Err fault) → RowsRead s (Err error)
+pub rows_refused : (s : Lines) (fault : PackFault) (error : PackError) → error ≡ AtLine fault → ((start : ℕ) (title : List ℕ) (done : List Plan) → rows_on start title (number s) [] done (left s) ≡ Err fault) → RowsRead s (Err error)
 rows_refused s fault error e h = subst (λ x. RowsRead s (Err x)) (sym e) h
 
-pub plans_refused : (s : Lines) (fault : PackFault) (error : PackError) → error ≡ Refused fault → ((done : List Plan) → plans_after (number s) done (left s) ≡ Err fault) → PlanRead s (Err error)
+pub plans_refused : (s : Lines) (fault : PackFault) (error : PackError) → error ≡ AtLine fault → ((done : List Plan) → plans_after (number s) done (left s) ≡ Err fault) → PlanRead s (Err error)
 plans_refused s fault error e h = subst (λ x. PlanRead s (Err x)) (sym e) h
 
 -- behind a title
@@ -40,7 +40,7 @@ module _ (s t : Lines) (l title : List ℕ) (cut : left s ≡ l ∷ left t) (nex
   begins done = plans_title l (left s) (left t) cut (some_pieces t.rest.now) (number s) done title is ∙ ap (λ n. rows_on (number s) title n [] done (left t)) (sym next)
 
   pub plan_refused : (error : PackError) → RowsRead t (Err error) → PlanRead s (Err error)
-  plan_refused (Refused fault) r = λ done. begins done ∙ r (number s) title done
+  plan_refused (AtLine fault) r = λ done. begins done ∙ r (number s) title done
   plan_refused OutOfMemory r = tt
 
   pub plan_read : (rows : Vec Halfsegment) (u : Lines) → RowsRead t (Ok (rows, u)) → (n : ℕ) → n ≡ number s → (done : List Plan) → plans_after (number s) done (left s) ≡ and_then (with_plan n done record { title = title; rows = rows.items }) (λ more. plans_after (number u) more (left u))
@@ -61,7 +61,7 @@ module _ (text : List ℕ) (s : Lines) (g : Growing) (going : Going text s g) wh
     onward r = and_then r (λ more. plans_after (number t) more (left t))
 
     pub refused : (error : PackError) → Added g p (Err error) → Packed text (Err error)
-    refused (Refused fault) added = going.2 ∙ ap dated (read.2 going.1 ∙ ap onward (added _ going.3))
+    refused (AtLine fault) added = going.2 ∙ ap dated (read.2 going.1 ∙ ap onward (added _ going.3))
     refused OutOfMemory added = tt
 
     pub goes_on : (h : Growing) → Added g p (Ok h) → Going text t h

@@ -1,9 +1,8 @@
 -- Lines that are no date, `no_date`, and the row at a place of a list that is kept, `row_kept`.
-use Rattle.std.proofs.Common.{◌≡◌, ℕ, ◌<◌, ◌≤◌, Bool, true, false, cond, ◌&&◌, eqb, MatchOption, List, [], ◌∷◌, length, get_or, take, Some, None, Ok, Option, codes, bytes_eq, sym, refl, ap, ◌∙◌, arith, Bor}
+use Rattle.std.proofs.Common.{◌≡◌, ℕ, ◌<◌, ◌≤◌, false, eqb, MatchOption, List, [], ◌∷◌, length, get_or, take, Some, None, Ok, Option, codes, bytes_eq, sym, refl, ap, ◌∙◌, arith, Bor}
 use Rattle.std.specs.List.{starts_with}
 use Rattle.std.specs.Option.{IfSome, ok_or, option_copied}
 use Rattle.std.proofs.lemmas.Bool.Decides.{nat_tests}
-use Rattle.std.proofs.lemmas.Grind.{common_steps}
 use Rattle.plane.specs.declared.halfsegment.Halfsegment.{Halfsegment}
 use Rattle.storage.specs.Rows.{row_at, no_such_place}
 use Rattle.storage.proofs.RowLists.{row_at_in, row_at_out}

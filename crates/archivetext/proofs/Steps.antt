@@ -1,5 +1,5 @@
 -- Reading a text line by line: what a first line leaves of `rows_on`, of `plans_after` and of `lines_on`, and what the end leaves.
-use Rattle.std.proofs.Common.{◌≡◌, ℕ, suc, ◌+◌, ◌-◌, ◌<◌, ◌≤◌, true, false, cond, eqb, ltb, List, [], ◌∷◌, ◌++◌, length, take, drop, Some, None, Ok, Err, Option, Result, sym, refl, ap, ◌∙◌, arith, Bor}
+use Rattle.std.proofs.Common.{◌≡◌, ℕ, suc, ◌+◌, ◌-◌, ◌<◌, ◌≤◌, true, false, cond, eqb, ltb, List, [], ◌∷◌, ◌++◌, length, take, drop, Some, None, Option, Result, sym, refl, ap, ◌∙◌, arith, Bor}
 use Rattle.std.specs.List.{position_or_len}
 use Rattle.std.specs.Option.{is_some}
 use Rattle.std.proofs.lemmas.Bool.{lt-ltb, le-ltb}
@@ -102,9 +102,9 @@ module _ (l : List ℕ) (ps ls : List (List ℕ)) (cut : ps ≡ l ∷ ls) (some 
     inside = ap (rows_on start title n rows done) cut ∙ by ls some
       where
         by : (ms : List (List ℕ)) → 0 < length ms → rows_on start title n rows done (l ∷ ms) ≡ elim (title_of_line l) [
-            | Some next ↦ and_then closing (λ more. rows_on n next (suc n) [] more ms)
-            | None ↦ elim (row_of_line l) [ None ↦ at_line n NotARow | Some h ↦ cond (ltb (length rows) 4000) (rows_on start title (suc n) (rows ++ (h ∷ [])) done ms) (at_line n TooManyRows) ]
-          ]
+          | Some next ↦ and_then closing (λ more. rows_on n next (suc n) [] more ms)
+          | None ↦ elim (row_of_line l) [ None ↦ at_line n NotARow | Some h ↦ cond (ltb (length rows) 4000) (rows_on start title (suc n) (rows ++ (h ∷ [])) done ms) (at_line n TooManyRows) ]
+        ]
         by [] lt = absurd (omega arith)
         by (m ∷ ms) lt = refl
 

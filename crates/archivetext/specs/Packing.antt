@@ -11,7 +11,7 @@ use Rattle.encoding.specs.Read.{and_then}
 use Rattle.archive.specs.Writing.{Holds}
 use Rattle.archivetext.specs.declared.faults.PackFault.{PackFault}
 use Rattle.archivetext.specs.declared.faults.PackError.{PackError}
-use Rattle.archivetext.specs.declared.faults.PackError.TheVariants.{Refused, OutOfMemory}
+use Rattle.archivetext.specs.declared.faults.PackError.TheVariants.{AtLine, OutOfMemory}
 use Rattle.archivetext.specs.declared.faults.LineFault.TheVariants.{NoSuchDate, NotAPlan}
 use Rattle.archivetext.specs.declared.splitting.Lines.{Lines}
 use Rattle.archivetext.specs.declared.packing.PlanLines.{PlanLines}
@@ -21,7 +21,7 @@ use Rattle.archivetext.specs.Pack.{at_line, at_end, title_of_line, with_plan, ro
 -- the bytes are the encoding of the archive that the text stands for; or the text has that fault
 abbrev pub Packed : List ℕ → Result (Vec ℕ) PackError → Type 0
 Packed text (Ok v) = (a : Archive) × (archive_of text ≡ Ok a) × (v.items ≡ encoded a)
-Packed text (Err (Refused fault)) = archive_of text ≡ Err fault
+Packed text (Err (AtLine fault)) = archive_of text ≡ Err fault
 Packed text (Err OutOfMemory) = Unit {0}
 
 -- the lines that are left to read, with the piece behind the last line feed
@@ -57,7 +57,7 @@ DateRead s (Err fault) = lines_on (left s) ≡ Err fault
 abbrev pub RowsRead : Lines → Result (Vec Halfsegment × Lines) PackError → Type 0
 RowsRead s (Ok (rows, t)) =
     (length rows.items ≤ 4000) × (length t.rest.now ≤ length s.rest.now) × ((start : ℕ) (title : List ℕ) (done : List Plan) → rows_on start title (number s) [] done (left s) ≡ and_then (with_plan start done record { title = title; rows = rows.items }) (λ more. plans_after (number t) more (left t)))
-RowsRead s (Err (Refused fault)) = (start : ℕ) (title : List ℕ) (done : List Plan) → rows_on start title (number s) [] done (left s) ≡ Err fault
+RowsRead s (Err (AtLine fault)) = (start : ℕ) (title : List ℕ) (done : List Plan) → rows_on start title (number s) [] done (left s) ≡ Err fault
 RowsRead s (Err OutOfMemory) = Unit {0}
 
 abbrev pub plan_of : PlanLines → Plan
@@ -68,7 +68,7 @@ abbrev pub PlanRead : Lines → Result (Option (PlanLines × Lines)) PackError �
 PlanRead s (Ok (Some (p, t))) =
     (length p.rows.items ≤ 4000) × (length t.rest.now < length s.rest.now) × ((done : List Plan) → plans_after (number s) done (left s) ≡ and_then (with_plan p.line done (plan_of p)) (λ more. plans_after (number t) more (left t)))
 PlanRead s (Ok None) = (done : List Plan) → plans_after (number s) done (left s) ≡ Ok done
-PlanRead s (Err (Refused fault)) = (done : List Plan) → plans_after (number s) done (left s) ≡ Err fault
+PlanRead s (Err (AtLine fault)) = (done : List Plan) → plans_after (number s) done (left s) ≡ Err fault
 PlanRead s (Err OutOfMemory) = Unit {0}
 
 -- that many bytes stand behind the others
@@ -79,14 +79,14 @@ Lengthened old more (Err failed) new = Unit {0}
 -- an archive that is begun in memory of its own
 abbrev pub Begun : Date → Result Growing PackError → Type 0
 Begun date (Ok g) = (valid_date date ≡ true) × Holds record { date = date; plans = [] } g.archive g.bytes.items
-Begun date (Err (Refused fault)) = (valid_date date ≡ false) × (fault ≡ record { line = 1; why = NoSuchDate })
+Begun date (Err (AtLine fault)) = (valid_date date ≡ false) × (fault ≡ record { line = 1; why = NoSuchDate })
 Begun date (Err OutOfMemory) = Unit {0}
 
 -- a plan is added to those that the archive holds, or what stands against it
 abbrev pub Added : Growing → PlanLines → Result Growing PackError → Type 0
 Added g p (Ok h) =
     (a : Archive) → Holds a g.archive g.bytes.items → (more : List Plan) × (with_plan p.line a.plans (plan_of p) ≡ Ok more) × Holds record { date = a.date; plans = more } h.archive h.bytes.items
-Added g p (Err (Refused fault)) = (a : Archive) → Holds a g.archive g.bytes.items → with_plan p.line a.plans (plan_of p) ≡ Err fault
+Added g p (Err (AtLine fault)) = (a : Archive) → Holds a g.archive g.bytes.items → with_plan p.line a.plans (plan_of p) ≡ Err fault
 Added g p (Err OutOfMemory) = Unit {0}
 
 -- the archive that was held, as bytes

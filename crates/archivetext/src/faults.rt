@@ -1,6 +1,6 @@
 //! Why a text is no archive.
 ghost use Rattle.std.specs.Prelude.{◌≡◌};
-ghost use Rattle.archivetext.specs.declared.faults.PackError.TheVariants.{OutOfMemory, Refused};
+ghost use Rattle.archivetext.specs.declared.faults.PackError.TheVariants.{AtLine, OutOfMemory};
 
 use archive::AddRefusal;
 use std::alloc::{AllocError, AllocFailed};
@@ -33,15 +33,15 @@ pub struct PackFault {
 /// Why no archive was packed: the text is none, or memory ran out.
 #[derive(Clone, Copy, Debug, PartialEq, Eq)]
 pub enum PackError {
-    Refused(PackFault),
+    AtLine(PackFault),
     OutOfMemory,
 }
 
 impl From<PackFault> for PackError {
-    ghost from_gives = { λ fault error. error ≡ Refused fault };
+    ghost from_gives = { λ fault error. error ≡ AtLine fault };
 
     fn from(fault: PackFault) -> PackError {
-        PackError::Refused(fault)
+        PackError::AtLine(fault)
     }
 }
 

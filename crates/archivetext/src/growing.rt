@@ -29,7 +29,7 @@ impl Growing {
         let mut bytes = vec![in alloc; 0; 7]?;
         match OpenArchive::begin(&mut bytes, date) {
             Ok(archive) => Ok(Growing { bytes, archive }),
-            Err(BeginRefusal::NoSuchDate) => Err(PackError::Refused(PackFault {
+            Err(BeginRefusal::NoSuchDate) => Err(PackError::AtLine(PackFault {
                 line: 1,
                 why: LineFault::NoSuchDate,
             })),
@@ -43,7 +43,10 @@ impl Growing {
         ensures { Added self plan.now result }
     {
         let Growing { mut bytes, archive } = self;
-        let refused = |refusal| PackError::Refused(PackFault { line: plan.line, why: LineFault::Refused(refusal) });
+        let refused = |refusal| PackError::AtLine(PackFault {
+            line: plan.line,
+            why: LineFault::Refused(refusal),
+        });
         // So no memory is taken for a title that is too long.
         if !is_title(plan.title) {
             archive.abandon();

@@ -33,8 +33,7 @@ impl<'a> Source for PlanLines<'a> {
 }
 
 /// The date in the first line, and the lines behind it.
-fn read_date<'a>(lines: Lines<'a>) -> Result<(Date, Lines<'a>), PackFault>
-    requires { lines.read ≡ 0 }
+fn read_date(lines: Lines<'_>) -> Result<(Date, Lines<'_>), PackFault>
     ensures { DateRead lines.entry result }
 {
     let not_a_date = PackFault {
@@ -47,11 +46,13 @@ fn read_date<'a>(lines: Lines<'a>) -> Result<(Date, Lines<'a>), PackFault>
 }
 
 /// The rows up to the next title or the end, and the lines behind them.
-fn read_rows<'a>(alloc: Global, lines: Lines<'a>) -> Result<(Vec<Halfsegment>, Lines<'a>), PackError>
+fn read_rows(
+    alloc: Global,
+    mut lines: Lines<'_>,
+) -> Result<(Vec<Halfsegment>, Lines<'_>), PackError>
     ensures { RowsRead lines.entry result }
 {
     let mut rows = Vec::new(alloc);
-    let mut lines = lines;
     while let Some((line, behind)) = lines.first() {
         if parse_title(line).is_some() {
             return Ok((rows, lines));
@@ -70,7 +71,10 @@ fn read_rows<'a>(alloc: Global, lines: Lines<'a>) -> Result<(Vec<Halfsegment>, L
 }
 
 /// The next plan and the lines behind it, or none at the end.
-fn read_plan<'a>(alloc: Global, lines: Lines<'a>) -> Result<Option<(PlanLines<'a>, Lines<'a>)>, PackError>
+fn read_plan(
+    alloc: Global,
+    lines: Lines<'_>,
+) -> Result<Option<(PlanLines<'_>, Lines<'_>)>, PackError>
     ensures { PlanRead lines.entry result }
 {
     let Some((line, behind)) = lines.first() else {

@@ -1,5 +1,5 @@
 -- The first line feed, or none.
-use Rattle.std.proofs.Common.{◌≡◌, Some, None, cond, eqb, ltb, length, sym, ◌∙◌, arith, rules, tests}
+use Rattle.std.proofs.Common.{◌≡◌, Some, None, cond, eqb, ltb, length, arith, rules, tests}
 use Rattle.std.specs.List.{position_or_len}
 use Rattle.std.proofs.lemmas.Iterator.{YieldsList-from_slice}
 use Rattle.std.proofs.lemmas.Iterator.Search.{position_from_yields_List}
