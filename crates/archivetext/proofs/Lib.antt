@@ -5,3 +5,6 @@ pub mod Backs
 pub mod Sounds
 pub mod Unpacks
 pub mod DateLines
+pub mod Steps
+pub mod Chain
+pub mod Misses

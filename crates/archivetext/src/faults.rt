@@ -1,5 +1,9 @@
 //! Why a text is no archive.
+ghost use Rattle.std.specs.Prelude.{◌≡◌};
+ghost use Rattle.archivetext.specs.declared.faults.PackError.TheVariants.{AtLine, OutOfMemory};
+
 use archive::AddRefusal;
+use std::alloc::{AllocError, AllocFailed};
 
 /// What is wrong with a line.
 #[derive(Clone, Copy, Debug, PartialEq, Eq)]
@@ -24,4 +28,35 @@ pub enum LineFault {
 pub struct PackFault {
     pub line: usize,
     pub why: LineFault,
+}
+
+/// Why no archive was packed: the text is none, or memory ran out.
+#[derive(Clone, Copy, Debug, PartialEq, Eq)]
+pub enum PackError {
+    AtLine(PackFault),
+    OutOfMemory,
+}
+
+impl From<PackFault> for PackError {
+    ghost from_gives = { λ fault error. error ≡ AtLine fault };
+
+    fn from(fault: PackFault) -> PackError {
+        PackError::AtLine(fault)
+    }
+}
+
+impl From<AllocError> for PackError {
+    ghost from_gives = { λ _ error. error ≡ OutOfMemory };
+
+    fn from(_: AllocError) -> PackError {
+        PackError::OutOfMemory
+    }
+}
+
+impl<T: Drop> From<AllocFailed<T>> for PackError {
+    ghost from_gives = { λ _ error. error ≡ OutOfMemory };
+
+    fn from(_: AllocFailed<T>) -> PackError {
+        PackError::OutOfMemory
+    }
 }

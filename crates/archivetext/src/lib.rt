@@ -3,10 +3,16 @@
 
 mod faultline;
 mod faults;
+mod filling;
+mod growing;
+mod heads;
+mod packing;
 mod round;
+mod splitting;
 mod unpacking;
 
 pub use faultline::FaultLine;
-pub use faults::{LineFault, PackFault};
+pub use faults::{LineFault, PackError, PackFault};
+pub use packing::pack;
 pub use round::text_stands_for_archive;
 pub use unpacking::unpack;
