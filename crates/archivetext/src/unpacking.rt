@@ -1,18 +1,17 @@
 //! An archive's bytes as text: a line with the date, then for each plan a line with its title and a line for each row.
-ghost use Rattle.std.specs.Prelude.{◌≡◌, ◌++◌, IfOk, IsTrue, MatchResult, Ok, OnOk, Some};
+ghost use Rattle.std.specs.Prelude.{◌≡◌, ◌++◌, IfOk, IsTrue, MatchResult, Ok, OnOk};
 ghost use Rattle.encoding.specs.Dates.{valid_date};
 ghost use Rattle.encoding.specs.Read.{read_of};
 ghost use Rattle.archive.specs.Fields.{plan_seen};
-ghost use Rattle.archivetext.specs.Text.{date_words, line, plan_text, row_line, title_line, told_fault, unpacked};
+ghost use Rattle.archivetext.specs.Text.{date_words, line, plan_text, row_line, title_line, unpacked};
 ghost use Rattle.archivetext.specs.declared.unpacking.UnpackFault.TheVariants.{OutOfMemory, Refused};
 ghost use Rattle.archivetext.specs.Unpack.{Stopped, texted};
 
+use crate::faultline::FaultLine;
 use archive::{ArchivedPlan, Reader};
 use encoding::{ArchiveFault, Date};
-use plane::{Halfsegment, Point};
-use region::CheckRefusal;
+use plane::Halfsegment;
 use std::alloc::{AllocError, Global};
-use std::fmt;
 use storage::Rows;
 
 /// Why the text of an archive was not written to its end.
@@ -35,37 +34,6 @@ impl From<AllocError> for UnpackFault {
 
     fn from(error: AllocError) -> UnpackFault {
         UnpackFault::OutOfMemory(error)
-    }
-}
-
-/// The line that tells why bytes are no archive, without its line feed.
-#[derive(Drop)]
-struct FaultLine {
-    fault: ArchiveFault,
-}
-
-impl fmt::Display for FaultLine {
-    ghost output = { λ l. Some (told_fault l.fault) };
-
-    fn fmt<W: fmt::Write>(&self, f: &mut fmt::Formatter<W>) -> fmt::Result {
-        let fault = self.fault;
-        write!(
-            f,
-            "refused {} place {} plan {}",
-            fault.number(),
-            fault.place(),
-            fault.plan()
-        )?;
-        match fault.check() {
-            None => Ok(()),
-            Some(CheckRefusal::Unclosed(Point { x, y })) => write!(f, " at {x} {y}"),
-            Some(
-                CheckRefusal::BadRow(row, _)
-                | CheckRefusal::Unsorted(row)
-                | CheckRefusal::NoTwin(row)
-                | CheckRefusal::Improper(row),
-            ) => write!(f, " row {row}"),
-        }
     }
 }
 
