@@ -5,6 +5,7 @@ use anyhow::anyhow;
 use archive::AddRefusal;
 use archivetext::{LineFault, PackError, PackFault, pack};
 use std::io::{Read, Write};
+use storage::MOST_ROWS;
 
 /// Tells which line is at fault, and why.
 fn explain(rt: &impl Eprint, fault: PackFault) -> anyhow::Result<()> {
@@ -18,7 +19,7 @@ fn explain(rt: &impl Eprint, fault: PackFault) -> anyhow::Result<()> {
         LineFault::NotARow => eprintln!(rt;
             "line {line}: not four whole numbers of 32 bits with single spaces between them"
         )?,
-        LineFault::TooManyRows => eprintln!(rt; "line {line}: more than 4000 rows")?,
+        LineFault::TooManyRows => eprintln!(rt; "line {line}: more than {MOST_ROWS} rows")?,
         LineFault::NotEnded => eprintln!(rt; "line {line}: no line feed at its end")?,
         LineFault::Refused(AddRefusal::BadPlan(refusal)) => {
             eprintln!(rt;
