@@ -9,8 +9,14 @@ use encoding::Date;
 use std::alloc::{AllocError, Global};
 use storage::ROW_BYTES;
 
+/// How many bytes the field of the date takes.
+const DATE_FIELD: usize = 7;
+
 /// How many bytes the heads of a plan's three fields take.
 const PLAN_HEADS: usize = 9;
+
+/// How many bytes the last field takes.
+const LAST_FIELD: usize = 5;
 
 /// An archive in memory of its own, which it fills.
 pub(crate) struct Growing {
@@ -26,7 +32,7 @@ impl Growing {
     pub(crate) fn begin(alloc: Global, date: Date) -> Result<Growing, PackError>
         ensures { Begun date result }
     {
-        let mut bytes = vec![in alloc; 0; 7]?;
+        let mut bytes = vec![in alloc; 0; DATE_FIELD]?;
         match OpenArchive::begin(&mut bytes, date) {
             Ok(archive) => Ok(Growing { bytes, archive }),
             Err(BeginRefusal::NoSuchDate) => Err(PackError::AtLine(PackFault {
@@ -77,7 +83,7 @@ impl Growing {
         ensures { Closed self result }
     {
         let Growing { mut bytes, archive } = self;
-        if let Err(failed) = lengthen(&mut bytes, 5) {
+        if let Err(failed) = lengthen(&mut bytes, LAST_FIELD) {
             archive.abandon();
             return Err(failed);
         }
