@@ -3,12 +3,13 @@
 
 #[cfg(test)]
 mod tests {
-    use archive::{Contents, OpenArchive, Reader, read};
+    use archive::{CloseRefusal, Contents, OpenArchive, Reader, read};
     use encoding::Date;
     use plane::{Halfsegment, Point};
-    use std::process::Abort;
     use std::test::Fail;
-    use storage::{ByteStore, MOST_ROWS, ROW_BYTES, RecordStore, Source, Store, same};
+    use storage::{
+        ByteStore, InsertRefusal, MOST_ROWS, ROW_BYTES, RecordStore, Source, Store, same,
+    };
 
     const DAY: Date = Date {
         year: 2024,
@@ -42,17 +43,17 @@ mod tests {
     }
 
     /// Adds the rows at the end of the store.
-    fn fill<S: Store>(rt: &impl Abort, store: &mut S, rows: &[Halfsegment]) {
+    fn fill<S: Store>(store: &mut S, rows: &[Halfsegment]) -> Result<(), InsertRefusal> {
         for row in rows {
             let end = store.count();
-            assert!(rt; store.insert(end, *row).is_ok());
+            store.insert(end, *row)?;
         }
+        Ok(())
     }
 
     /// The triangle (0, 0), (4, 0), (0, 3).
-    fn fill_triangle(rt: &impl Abort, store: &mut RecordStore) {
+    fn fill_triangle(store: &mut RecordStore) -> Result<(), InsertRefusal> {
         fill(
-            rt,
             store,
             &[
                 row(0, 0, 4, 0),
@@ -62,7 +63,7 @@ mod tests {
                 row(4, 0, 0, 3),
                 row(4, 0, 0, 0),
             ],
-        );
+        )
     }
 
     /// Adds a plan, and tells the number of the refusal, if there is one. The archive is open in either case.
@@ -79,41 +80,42 @@ mod tests {
     }
 
     /// Closes the archive, which is to succeed, and tells its length.
-    fn closed_length(rt: &impl Abort, archive: OpenArchive, bytes: &mut [u8]) -> usize {
+    fn closed_length(archive: OpenArchive, bytes: &mut [u8]) -> Result<usize, CloseRefusal> {
         match archive.close(bytes) {
-            Ok(closed) => closed.len(),
+            Ok(closed) => Ok(closed.len()),
             Err((archive, refusal)) => {
                 archive.abandon();
-                panic!(rt; "close refused with {}", refusal.number())
+                Err(refusal)
             }
         }
     }
 
-    /// Writes the archive of two plans.
-    fn write_two_plans(rt: &impl Abort, bytes: &mut [u8]) {
+    /// Writes the archive of two plans, and tells its length.
+    fn write_two_plans(bytes: &mut [u8]) -> Result<usize, Fail> {
         let mut memory = [Halfsegment::default(); 6];
         let mut triangle = RecordStore::new(&mut memory);
-        fill_triangle(rt, &mut triangle);
+        fill_triangle(&mut triangle)?;
         let bare = RecordStore::new(&mut []);
-        let Ok(archive) = OpenArchive::begin(bytes, DAY) else {
-            panic!(rt; "the date fits")
-        };
-        let (archive, refused) = add(archive, bytes, TITLE, &triangle);
-        assert_eq!(rt; refused, None);
-        let (archive, refused) = add(archive, bytes, b"Cell 2", &bare);
-        assert_eq!(rt; refused, None);
-        assert_eq!(rt; closed_length(rt, archive, bytes), 172);
+        let archive = OpenArchive::begin(bytes, DAY)?;
+        let (archive, first) = add(archive, bytes, TITLE, &triangle);
+        let (archive, second) = add(archive, bytes, b"Cell 2", &bare);
+        if first.is_some() || second.is_some() {
+            archive.abandon();
+            return Err(Fail::new("a plan is refused"));
+        }
+        Ok(closed_length(archive, bytes)?)
     }
 
     #[test]
-    fn two_plans_take_their_bytes(rt: HostRuntime) {
+    fn two_plans_take_their_bytes(rt: HostRuntime) -> Result<(), Fail> {
         let mut bytes = [0xEEu8; 172];
-        write_two_plans(&rt, &mut bytes);
+        assert_eq!(rt; write_two_plans(&mut bytes)?, 172);
         assert!(rt; bytes == TWO_PLANS);
         let mut bytes = [0xEEu8; 176];
-        write_two_plans(&rt, &mut bytes);
+        assert_eq!(rt; write_two_plans(&mut bytes)?, 172);
         assert!(rt; bytes.starts_with(&TWO_PLANS));
         assert!(rt; bytes.ends_with(&[0xEE; 4]), "bytes past the archive stay");
+        Ok(())
     }
 
     /// The number of the refusal, if no archive can be begun.
@@ -142,7 +144,7 @@ mod tests {
     fn add_is_refused_and_the_archive_goes_on(rt: HostRuntime) -> Result<(), Fail> {
         let mut memory = [Halfsegment::default(); 6];
         let mut triangle = RecordStore::new(&mut memory);
-        fill_triangle(&rt, &mut triangle);
+        fill_triangle(&mut triangle)?;
         let bare = RecordStore::new(&mut []);
         let mut bytes = [0xEEu8; 111];
         let archive = OpenArchive::begin(&mut bytes, DAY)?;
@@ -156,7 +158,7 @@ mod tests {
         assert!(rt; bytes == before);
         let (archive, refused) = add(archive, &mut bytes, b"", &bare);
         assert_eq!(rt; refused, None);
-        assert_eq!(rt; closed_length(&rt, archive, &mut bytes), 21);
+        assert_eq!(rt; closed_length(archive, &mut bytes)?, 21);
         assert_eq!(rt; read(&bytes[..21]).map(|contents| contents.plans), Ok(1));
         Ok(())
     }
@@ -165,70 +167,68 @@ mod tests {
     fn close_is_refused_and_the_archive_goes_on(rt: HostRuntime) -> Result<(), Fail> {
         let mut memory = [Halfsegment::default(); 6];
         let mut triangle = RecordStore::new(&mut memory);
-        fill_triangle(&rt, &mut triangle);
+        fill_triangle(&mut triangle)?;
         let mut bytes = [0xEEu8; 112];
         let archive = OpenArchive::begin(&mut bytes, DAY)?;
         let (archive, refused) = add(archive, &mut bytes, b"", &triangle);
         assert_eq!(rt; refused, None, "no byte is left over");
         let before = bytes;
         let Err((archive, refusal)) = archive.close(&mut bytes) else {
-            panic!(rt; "the last field does not fit")
+            return Err(Fail::new("the last field does not fit"))
         };
         assert_eq!(rt; refusal.number(), 14);
         assert!(rt; bytes == before);
         let mut longer = [0xEEu8; 117];
         longer[..112].copy_from_slice(&bytes);
-        assert_eq!(rt; closed_length(&rt, archive, &mut longer), 117);
+        assert_eq!(rt; closed_length(archive, &mut longer)?, 117);
         assert_eq!(rt; read(&longer).map(|contents| contents.plans), Ok(1));
         Ok(())
     }
 
     /// The number of the refusal, if the rows cannot be added to an archive of no plans. Then all bytes stay.
-    fn rows_refused(rt: &impl Abort, rows: &[Halfsegment]) -> Option<u8> {
+    fn rows_refused(rows: &[Halfsegment]) -> Result<Option<u8>, Fail> {
         let mut memory = [Halfsegment::default(); 4];
         let mut store = RecordStore::new(&mut memory);
-        fill(rt, &mut store, rows);
+        fill(&mut store, rows)?;
         let mut bytes = [0xEEu8; 80];
-        let Ok(archive) = OpenArchive::begin(&mut bytes, DAY) else {
-            panic!(rt; "the date fits")
-        };
+        let archive = OpenArchive::begin(&mut bytes, DAY)?;
         let before = bytes;
         let (archive, refused) = add(archive, &mut bytes, b"", &store);
         archive.abandon();
-        assert!(rt; refused.is_none() || bytes == before);
-        refused
+        if refused.is_some() && bytes != before {
+            return Err(Fail::new("a refusal changed the bytes"));
+        }
+        Ok(refused)
     }
 
     #[test]
-    fn rows_are_checked(rt: HostRuntime) {
+    fn rows_are_checked(rt: HostRuntime) -> Result<(), Fail> {
         let there = row(0, 0, 4, 0);
         let back = row(4, 0, 0, 0);
-        assert_eq!(rt; rows_refused(&rt, &[]), None);
-        assert_eq!(rt; rows_refused(&rt, &[row(0, 0, 10_000_001, 0)]), Some(1));
-        assert_eq!(rt; rows_refused(&rt, &[row(3, 3, 3, 3)]), Some(2));
-        assert_eq!(rt; rows_refused(&rt, &[there, there]), Some(7));
-        assert_eq!(rt; rows_refused(&rt, &[there]), Some(8));
-        assert_eq!(rt; rows_refused(&rt, &[there, back]), Some(9));
+        assert_eq!(rt; rows_refused(&[])?, None);
+        assert_eq!(rt; rows_refused(&[row(0, 0, 10_000_001, 0)])?, Some(1));
+        assert_eq!(rt; rows_refused(&[row(3, 3, 3, 3)])?, Some(2));
+        assert_eq!(rt; rows_refused(&[there, there])?, Some(7));
+        assert_eq!(rt; rows_refused(&[there])?, Some(8));
+        assert_eq!(rt; rows_refused(&[there, back])?, Some(9));
         assert_eq!(rt;
-            rows_refused(
-                &rt,
-                &[
-                    row(0, 0, 4, 4),
-                    row(0, 4, 4, 0),
-                    row(4, 0, 0, 4),
-                    row(4, 4, 0, 0),
-                ]
-            ),
+            rows_refused(&[
+                row(0, 0, 4, 4),
+                row(0, 4, 4, 0),
+                row(4, 0, 0, 4),
+                row(4, 4, 0, 0),
+            ])?,
             Some(4),
             "the diagonals of a square cross"
         );
+        Ok(())
     }
 
     #[test]
     fn two_plans_are_read_back(rt: HostRuntime) -> Result<(), Fail> {
         let mut memory = [Halfsegment::default(); 6];
         let mut triangle = RecordStore::new(&mut memory);
-        fill_triangle(&rt, &mut triangle);
+        fill_triangle(&mut triangle)?;
         let (date, mut reader) = Reader::open(&TWO_PLANS)?;
         assert_eq!(rt; date, DAY);
         let first = reader.next_plan()?.ok_or("no first plan")?;
@@ -251,7 +251,7 @@ mod tests {
     }
 
     /// The rows of 500 squares on a grid of 25 columns, in order.
-    fn fill_squares<S: Store>(rt: &impl Abort, store: &mut S) {
+    fn fill_squares<S: Store>(store: &mut S) -> Result<(), InsertRefusal> {
         for column in 0..25u8 {
             let left = 10 * i32::from(column);
             let right = left + 4;
@@ -259,7 +259,6 @@ mod tests {
                 let low = 10 * i32::from(step);
                 let high = low + 4;
                 fill(
-                    rt,
                     store,
                     &[
                         row(left, low, right, low),
@@ -267,13 +266,12 @@ mod tests {
                         row(left, high, left, low),
                         row(left, high, right, high),
                     ],
-                );
+                )?;
             }
             for step in 0..20u8 {
                 let low = 10 * i32::from(step);
                 let high = low + 4;
                 fill(
-                    rt,
                     store,
                     &[
                         row(right, low, left, low),
@@ -281,22 +279,23 @@ mod tests {
                         row(right, high, left, high),
                         row(right, high, right, low),
                     ],
-                );
+                )?;
             }
         }
+        Ok(())
     }
 
     #[test]
     fn a_plan_of_4000_rows(rt: HostRuntime) -> Result<(), Fail> {
         let mut memory = vec![in rt.alloc(); 0u8; ROW_BYTES * MOST_ROWS]?;
         let mut squares = ByteStore::new(&mut memory);
-        fill_squares(&rt, &mut squares);
+        fill_squares(&mut squares)?;
         assert_eq!(rt; squares.count(), 4000);
         let mut bytes = vec![in rt.alloc(); 0xEEu8; 64_032]?;
         let archive = OpenArchive::begin(&mut bytes, DAY)?;
         let (archive, refused) = add(archive, &mut bytes, b"500 squares", &squares);
         assert_eq!(rt; refused, None);
-        assert_eq!(rt; closed_length(&rt, archive, &mut bytes), 64_032);
+        assert_eq!(rt; closed_length(archive, &mut bytes)?, 64_032);
         assert!(rt; bytes[7..10] == [0x20, 0xFA, 0x11]);
         assert!(rt; bytes[24..27] == [0x22, 0xFA, 0x00]);
         assert!(rt; bytes[64_027..] == [0x7F, 0, 2, 0, 1]);
