@@ -4,10 +4,11 @@
 use anyhow::anyhow;
 use archive::AddRefusal;
 use archivetext::{LineFault, PackError, PackFault, pack};
+use plantext::Named;
 use std::io::{Read, Write};
 use storage::MOST_ROWS;
 
-/// Tells which line is at fault, and why.
+/// Tells which line is at fault, and why. The words are the program's own: no rule fixes them, so the fault has no `Display` that promises them.
 fn explain(rt: &impl Eprint, fault: PackFault) -> anyhow::Result<()> {
     let line = fault.line;
     match fault.why {
@@ -23,8 +24,9 @@ fn explain(rt: &impl Eprint, fault: PackFault) -> anyhow::Result<()> {
         LineFault::NotEnded => eprintln!(rt; "line {line}: no line feed at its end")?,
         LineFault::Refused(AddRefusal::BadPlan(refusal)) => {
             eprintln!(rt;
-                "line {line}: check refuses the plan with {}",
-                refusal.number()
+                "line {line}: check refuses the plan with {}{}",
+                refusal.number(),
+                Named(refusal)
             )?
         }
         LineFault::Refused(refusal) => {
