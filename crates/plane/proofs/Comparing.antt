@@ -1,7 +1,7 @@
 -- Two fit halfsegments, compared step by step: the first step that decides gives what `compared` says (`steps_compare`).
-use Rattle.std.proofs.Common.{◌≡◌, Bool, true, false, ◌&&◌, ◌||◌, ◌⊎◌, ℤ, pos, Some, None, sym, refl, ap, ◌∙◌, inl, inr, arith}
+use Rattle.std.proofs.Common.{◌≡◌, Bool, true, false, cond, ◌&&◌, ◌||◌, ◌⊎◌, ℤ, pos, Some, None, sym, refl, ap, ◌∙◌, inl, inr, arith}
 use Rattle.std.specs.Cmp.{tied_itself, int_cmp_total}
-use Rattle.std.specs.Ordering.{is_lt, is_eq, int_cmp, bool_cmp, ordering_then}
+use Rattle.std.specs.Ordering.{MatchOrdering, is_lt, is_eq, int_cmp, bool_cmp, ordering_then}
 use Rattle.std.specs.declared.cmp.Ordering.{Ordering}
 use Rattle.std.specs.declared.cmp.Ordering.TheVariants.{Less, Equal, Greater}
 use lib.Signed.{lt_z}
@@ -100,18 +100,24 @@ decided Equal c d n e h = absurd (n refl)
 decided Greater c d n e (inl h) = absurd (apart h (sym e))
 decided Greater c d n e (inr h) = λ i. by_tests false true (e i) (sym h i)
 
-pub alike : (g h : Halfsegment) → same_row g h ≡ true → Some Equal ≡ compared g h
-alike g h e i = by_tests (sym e i) (fit g && fit h) (comes_before g h) (comes_before h g)
+alike_rows : (g h : Halfsegment) → same_row g h ≡ true → Some Equal ≡ compared g h
+alike_rows g h e i = by_tests (sym e i) (fit g && fit h) (comes_before g h) (comes_before h g)
 
-pub unfit : (g h : Halfsegment) → same_row g h ≡ false → (fit g && fit h) ≡ false → None ≡ compared g h
-unfit g h n f i = by_tests (sym n i) (sym f i) (comes_before g h) (comes_before h g)
+pub unfit : (g h : Halfsegment) → (fit g && fit h) ≡ false → cond (same_row g h) (Some Equal) None ≡ compared g h
+unfit g h e i = by_tests (same_row g h) (sym e i) (comes_before g h) (comes_before h g)
 
 pub steps_compare : (g h : Halfsegment) → fit g ≡ true → fit h ≡ true → Some (answer g h) ≡ compared g h
 steps_compare g h fg fh = go (case (same_row g h))
   where
     go : Case (same_row g h) → Some (answer g h) ≡ compared g h
-    go (holds e) = ap (λ r. Some (answer g r)) (sym (same_row_is g h e)) ∙ ap Some (level_self g) ∙ alike g h e
+    go (holds e) = ap (λ r. Some (answer g r)) (sym (same_row_is g h e)) ∙ ap Some (level_self g) ∙ alike_rows g h e
     go (fails n) =
         decided (answer g h) (comes_before g h) (comes_before h g) (λ e. apart (same_row_holds g h (level g h fg fh e)) n) (before g h)
         (row_order.comparable g h (fit_long g fg) (fit_long h fh) (λ e. apart (same_row_holds g h e) n))
         ∙ (λ i. by_tests (sym n i) (sym (and_from (fit g) (fit h) fg fh) i) (comes_before g h) (comes_before h g))
+
+-- a step that is taken only where those before leave it open
+pub next_step : {Q : Type 0} (o r t : Ordering) → MatchOrdering o (r ≡ Less) Q (r ≡ Greater) → (Q → r ≡ t) → r ≡ ordering_then o t
+next_step Less r t e k = e
+next_step Equal r t e k = k e
+next_step Greater r t e k = e

@@ -2,7 +2,6 @@
 use Rattle.std.proofs.Common.{◌≡◌, Bool, true, false, ◌&&◌, ◌||◌, eqb, ℤ, pos, sym, ap, ◌∙◌, arith, w64, SFits, to_z, of_z}
 use Rattle.std.specs.Ordering.{is_lt, partial_lt}
 use Rattle.std.proofs.lemmas.Int.{ints, to_z-of_z}
-use Rattle.std.proofs.Math.Bool.{or_assoc}
 use Rattle.std.proofs.lemmas.Bool.{and_parts}
 use Rattle.plane.specs.declared.point.Point.{Point}
 use Rattle.plane.specs.declared.segment.Segment.{Segment}
@@ -49,5 +48,5 @@ or_then b p e = e ∙ ap (λ t. t || b) (sym e ∙ p)
 pub or_else : {x y a b : Bool} → x ≡ a → y ≡ b → x ≡ false → y ≡ (a || b)
 or_else {b = b} p q e = q ∙ ap (λ t. t || b) (sym e ∙ p)
 
-pub or_regrouped : (a b c d : Bool) → ((a || (b || c)) || d) ≡ (a || (b || (c || d)))
-or_regrouped a b c d = or_assoc a (b || c) d ∙ ap (λ t. a || t) (or_assoc b c d)
+pub or_turned : (a b c d e : Bool) → (((a || b) || (c || d)) || e) ≡ (e || (a || (b || (c || d))))
+or_turned a b c d e = grind arith

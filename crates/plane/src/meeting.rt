@@ -31,46 +31,54 @@ impl DrawableSegment {
         }
     }
 
-    /// On which sides of the segment the ends of `other` lie: above 0 on its left, going from `low` to `high`.
-    fn sides(self, other: DrawableSegment) -> (i64, i64)
-        ensures low { result.0 ≡ orientation self.segment.low self.segment.high other.segment.low }
-        ensures high { result.1 ≡ orientation self.segment.low self.segment.high other.segment.high }
+    /// On which side of the segment the lesser end of `other` lies: above 0 on its left, going from `low` to `high`.
+    fn side_of_low(self, other: DrawableSegment) -> i64
+        ensures { result ≡ orientation self.segment.low self.segment.high other.segment.low }
     {
-        let Segment { low, high } = self.segment;
-        (
-            orientation(low, high, other.segment.low),
-            orientation(low, high, other.segment.high),
-        )
+        orientation(self.segment.low, self.segment.high, other.segment.low)
     }
 
-    /// Whether a point, of which `sides` told the side, lies on the segment and is not an end of it.
-    fn is_inside(self, p: Point, side: i64) -> bool
-        ensures { result ≡ (precedes self.segment.low p && (precedes p self.segment.high && eq_int side (pos 0))) }
+    /// On which side of the segment the greater end of `other` lies.
+    fn side_of_high(self, other: DrawableSegment) -> i64
+        ensures { result ≡ orientation self.segment.low self.segment.high other.segment.high }
     {
-        self.segment.low < p && p < self.segment.high && side == 0
+        orientation(self.segment.low, self.segment.high, other.segment.high)
     }
 
-    /// Whether an end of `other` lies on the segment and is not an end of it.
+    /// Whether the point stands strictly between the ends, in the order of points.
+    fn spans(self, p: Point) -> bool
+        ensures { result ≡ (precedes self.segment.low p && precedes p self.segment.high) }
+    {
+        self.segment.low < p && p < self.segment.high
+    }
+
+    /// Whether an end of `other` lies on the segment and is not an end of it. Its side is asked only where it stands between the ends.
     fn has_inside(self, other: DrawableSegment) -> bool
         ensures { result ≡ (inside self.segment other.segment.low || inside self.segment other.segment.high) }
     {
-        let (low, high) = self.sides(other);
-        self.is_inside(other.segment.low, low) || self.is_inside(other.segment.high, high)
+        (self.spans(other.segment.low) && self.side_of_low(other) == 0)
+            || (self.spans(other.segment.high) && self.side_of_high(other) == 0)
     }
 
-    /// Whether the ends of each lie strictly on both sides of the straight line through the other.
+    /// Whether the ends of `other` lie strictly on both sides of the straight line through the segment.
+    fn parts(self, other: DrawableSegment) -> bool
+        ensures { result ≡ opposite (orientation self.segment.low self.segment.high other.segment.low) (orientation self.segment.low self.segment.high other.segment.high) }
+    {
+        are_opposite(self.side_of_low(other), self.side_of_high(other))
+    }
+
+    /// Whether each parts the other.
     fn crosses(self, other: DrawableSegment) -> bool
         ensures { result ≡ crossing self.segment other.segment }
     {
-        let (low, high) = self.sides(other);
-        let (other_low, other_high) = other.sides(self);
-        are_opposite(other_low, other_high) && are_opposite(low, high)
+        other.parts(self) && self.parts(other)
     }
 
     fn is_improper_with(self, other: DrawableSegment) -> bool
         ensures { result ≡ improper self.segment other.segment }
     {
-        self.crosses(other) || self.has_inside(other) || other.has_inside(self)
+        // The crossing last, since it asks the most.
+        self.has_inside(other) || other.has_inside(self) || self.crosses(other)
     }
 }
 
@@ -79,10 +87,13 @@ pub fn meet_improperly(l: Segment, m: Segment) -> bool
     ensures shared { drawable l ≡ true → drawable m ≡ true → Decides result (MeetImproperly l m) }
     ensures signs { result ≡ (drawable l && (drawable m && improper l m)) }
 {
-    match (DrawableSegment::new(l), DrawableSegment::new(m)) {
-        (Some(l), Some(m)) => l.is_improper_with(m),
-        _ => false,
-    }
+    let Some(l) = DrawableSegment::new(l) else {
+        return false;
+    };
+    let Some(m) = DrawableSegment::new(m) else {
+        return false;
+    };
+    l.is_improper_with(m)
 }
 
 /// Signs of orientations tell whether two segments meet improperly.

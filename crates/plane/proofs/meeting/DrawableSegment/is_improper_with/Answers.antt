@@ -1,27 +1,27 @@
 use Rattle.std.proofs.Common.{◌≡◌, ◌||◌, ◌∙◌}
 use Rattle.plane.specs.Meeting.{crossing, inside}
-use Rattle.plane.proofs.Steps.{or_then, or_else, or_regrouped}
+use Rattle.plane.proofs.Steps.{or_then, or_else, or_turned}
 use Rattle.plane.proofs.meeting.DrawableSegment.is_improper_with.Goals as goal
-use Rattle.plane.proofs.meeting.DrawableSegment.is_improper_with.Goals.{then-crosses, else-crosses}
+use Rattle.plane.proofs.meeting.DrawableSegment.is_improper_with.Goals.{then-has_inside, else-has_inside}
 
-pub returns-then-has_inside : goal.returns-then-has_inside
-returns-then-has_inside c =
+pub returns-then-has_inside-2 : goal.returns-then-has_inside-2
+returns-then-has_inside-2 c =
     let l = c.args.self.segment in
     let m = c.args.other.segment in
-    let so_far : c.if-crosses.value ≡ (crossing l m || (inside l m.low || inside l m.high)) =
-    elim c.if-crosses.branch [
-      | then-crosses w ↦ w.value-is ∙ or_then (inside l m.low || inside l m.high) c.crosses.ensures w.if-crosses.true
-      | else-crosses w ↦ w.value-is ∙ or_else c.crosses.ensures w.has_inside.ensures w.if-crosses.false
+    let ends : c.if-has_inside.value ≡ ((inside l m.low || inside l m.high) || (inside m l.low || inside m l.high)) =
+    elim c.if-has_inside.branch [
+      | then-has_inside w ↦ w.value-is ∙ or_then (inside m l.low || inside m l.high) c.has_inside.ensures w.if-has_inside.true
+      | else-has_inside w ↦ w.value-is ∙ or_else c.has_inside.ensures w.has_inside-else-has_inside.ensures w.if-has_inside.false
     ] in
-    or_then (inside m l.low || inside m l.high) so_far c.if-has_inside.true ∙ or_regrouped (crossing l m) (inside l m.low) (inside l m.high) (inside m l.low || inside m l.high)
+    or_then (crossing l m) ends c.if-has_inside-2.true ∙ or_turned (inside l m.low) (inside l m.high) (inside m l.low) (inside m l.high) (crossing l m)
 
-pub returns-else-has_inside : goal.returns-else-has_inside
-returns-else-has_inside c =
+pub returns-else-has_inside-2 : goal.returns-else-has_inside-2
+returns-else-has_inside-2 c =
     let l = c.args.self.segment in
     let m = c.args.other.segment in
-    let so_far : c.if-crosses.value ≡ (crossing l m || (inside l m.low || inside l m.high)) =
-    elim c.if-crosses.branch [
-      | then-crosses w ↦ w.value-is ∙ or_then (inside l m.low || inside l m.high) c.crosses.ensures w.if-crosses.true
-      | else-crosses w ↦ w.value-is ∙ or_else c.crosses.ensures w.has_inside.ensures w.if-crosses.false
+    let ends : c.if-has_inside.value ≡ ((inside l m.low || inside l m.high) || (inside m l.low || inside m l.high)) =
+    elim c.if-has_inside.branch [
+      | then-has_inside w ↦ w.value-is ∙ or_then (inside m l.low || inside m l.high) c.has_inside.ensures w.if-has_inside.true
+      | else-has_inside w ↦ w.value-is ∙ or_else c.has_inside.ensures w.has_inside-else-has_inside.ensures w.if-has_inside.false
     ] in
-    or_else so_far c.has_inside-else-has_inside.ensures c.if-has_inside.false ∙ or_regrouped (crossing l m) (inside l m.low) (inside l m.high) (inside m l.low || inside m l.high)
+    or_else ends c.crosses.ensures c.if-has_inside-2.false ∙ or_turned (inside l m.low) (inside l m.high) (inside m l.low) (inside m l.high) (crossing l m)
