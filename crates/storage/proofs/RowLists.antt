@@ -1,11 +1,10 @@
 -- For implementers of the interfaces: the clauses, from facts about the list. For callers: what an answer says of it.
-use Rattle.std.proofs.Common.{◌≡◌, ℕ, zero, suc, ◌+◌, ◌-◌, ◌<◌, ◌≤◌, List, [], ◌∷◌, ◌++◌, length, get_or, take, drop, Ok, Err, refl, add-one, arith}
+use Rattle.std.proofs.Common.{◌≡◌, ℕ, zero, suc, ◌+◌, ◌-◌, ◌<◌, ◌≤◌, List, [], ◌∷◌, length, get_or, take, drop, Ok, Err, refl, add-one, arith}
 use Rattle.std.specs.List.{insert, remove, between}
 use Rattle.std.proofs.Math.ListN.{drop_of_length-le}
 use Rattle.std.proofs.lemmas.Bool.{lt-ltb, le-ltb}
 use Rattle.plane.specs.declared.halfsegment.Halfsegment.{Halfsegment}
 use Rattle.storage.specs.declared.interface.NoSuchPlace.{NoSuchPlace}
-use Rattle.storage.specs.declared.interface.InsertRefusal.TheVariants.{NoPlace, NoRoom}
 pub use Rattle.storage.specs.Layout.{Fits32}
 use Rattle.storage.specs.Rows.{no_such_place, row_at, Inserted, Removed}
 

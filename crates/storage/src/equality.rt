@@ -8,5 +8,10 @@ use crate::rows::Rows;
 pub fn same<S: Source, T: Source>(a: &S, b: &T) -> bool
     ensures { Decides result (S.Source.rows a.now ≡ T.Source.rows b.now) }
 {
-    Rows::of(a).eq(Rows::of(b))
+    // The counts first: so two lists of which one is the beginning of the other are told apart without a look at their rows.
+    let n = a.count();
+    n == b.count()
+        && Rows::at(a, 0..n)
+            .zip(Rows::at(b, 0..n))
+            .all(|(g, h)| g == h)
 }

@@ -28,10 +28,14 @@ impl<'a, S: Source> Rows<'a, S> {
         ensures rows { between result.places.start result.places.end (S.rows result.source.now) ≡ drop place (S.rows source.now) }
         ensures fits { length (S.rows source.now) < 2 ^ 64 }
     {
-        Rows {
-            source,
-            places: place..source.count(),
-        }
+        Rows::at(source, place..source.count())
+    }
+
+    /// The rows at the places, in order. A caller that knows the count need not ask the source for it again.
+    pub fn at(source: &'a S, places: Range<usize>) -> Rows<'a, S>
+        ensures { between result.places.start result.places.end (S.rows result.source.now) ≡ between places.start places.end (S.rows source.now) }
+    {
+        Rows { source, places }
     }
 }
 
