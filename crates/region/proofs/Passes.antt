@@ -1,11 +1,10 @@
 -- The passes of check: what a search through the rows found, as the answer of the pass. The main lemma is `pass`.
-use Rattle.std.proofs.Common.{◌≡◌, ℕ, zero, suc, ◌+◌, ◌-◌, ◌<◌, ◌≤◌, Bool, true, false, cond, not, nat_lt, ◌&&◌, ◌||◌, List, [], ◌∷◌, length, get_or, drop, Some, None, Ok, Err, Option, Result, ◌⊎◌, inl, inr, subst, sym, refl, ap, ◌∙◌, add-one, arith}
-use Rattle.std.specs.List.{list_any, count_by, position, position_or_len, find, zip}
+use Rattle.std.proofs.Common.{◌≡◌, ℕ, zero, suc, ◌+◌, ◌-◌, ◌<◌, ◌≤◌, Bool, true, false, cond, not, nat_lt, ◌&&◌, ◌||◌, List, [], ◌∷◌, length, get_or, drop, fold, Some, None, Ok, Err, Option, Result, ◌⊎◌, inl, inr, subst, sym, refl, ap, ◌∙◌, add-one, arith}
+use Rattle.std.specs.List.{list_any, position, position_or_len, find, zip}
 use Rattle.std.proofs.lemmas.Bool.{lt-ltb, le-ltb, cases_order}
 use Rattle.std.proofs.lemmas.List.{get_or-drop, length-drop}
 use Rattle.std.proofs.lemmas.Option.{slice_get-get_or, slice_get_past}
 use Rattle.std.proofs.lemmas.List.Folds.{find_at}
-use Rattle.std.proofs.lemmas.List.Recursion.{is_count_by}
 use Rattle.std.proofs.lemmas.List.Sums.{position_or_len_is}
 use Rattle.std.proofs.lemmas.Slice.Zip.{get_or-zip, length-zip}
 use Rattle.std.specs.List.{slice_get}
@@ -13,7 +12,7 @@ use Rattle.std.specs.Option.{MatchOption, option_map}
 use Rattle.std.specs.Result.{MatchResult}
 use Rattle.std.proofs.Math.Seq.{drop-cons}
 use Rattle.algebra.specs.Members.{any}
-use Rattle.algebra.specs.Parity.{times}
+use Rattle.algebra.specs.Parity.{differ, odd_times}
 use Rattle.algebra.proofs.Members.{Case, holds, fails, case}
 use Rattle.plane.specs.declared.halfsegment.Halfsegment.{Halfsegment}
 use Rattle.plane.specs.Rows.{fit, comes_before}
@@ -28,9 +27,6 @@ use Rattle.region.proofs.Firsts.{Sought, nowhere, somewhere, sought, first_none,
 pub any_is : {A : Type 0} (test : A → Bool) (zs : List A) → list_any test zs ≡ any test zs
 any_is test [] = refl
 any_is test (a ∷ zs) = ap (λ b. test a || b) (any_is test zs)
-
-pub times_is : {A : Type 0} (test : A → Bool) (zs : List A) → times test zs ≡ count_by test zs
-times_is test zs = is_count_by (times test) test refl (λ x xs. ap (λ n. cond (test x) n (times test xs)) (omega arith)) zs
 
 -- where no row misfits, each fits
 pub fits_at : (rows : List Halfsegment) → Nowhere (length rows) (Misfit rows) → (i : ℕ) → i < length rows → fit (row rows i) ≡ true
@@ -180,3 +176,15 @@ module _ (rows : List Halfsegment) where
 
   pub each_more : (i : ℕ) (h : Halfsegment) (left : List Halfsegment) → Front rows i h left → Ok tt ≡ placed i (row_fault h) → ((k : ℕ) → k < i → each_test k ≡ false) → (k : ℕ) → k < i + 1 → each_test k ≡ false
   each_more i h left here fits none = more each_test i none (ap (λ x. faulty (row_fault x)) here.is ∙ no_fault i (row_fault h) fits)
+
+-- a test that is turned at each row that passes: whether an odd number of rows pass
+pub turned_odd : {A : Type 0} (test : A → Bool) (b : Bool) (zs : List A) → fold (λ t a. differ t (test a)) b zs ≡ differ b (odd_times test zs)
+turned_odd test true [] = refl
+turned_odd test false [] = refl
+turned_odd test b (a ∷ zs) = turned_odd test (differ b (test a)) zs ∙ grouped b (test a) (odd_times test zs)
+  where
+    grouped : (s t u : Bool) → differ (differ s t) u ≡ differ s (differ t u)
+    grouped true true true = refl
+    grouped true true false = refl
+    grouped true false u = refl
+    grouped false t u = refl

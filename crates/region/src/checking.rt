@@ -73,10 +73,11 @@ fn check_meetings<S: Source>(s: &S) -> Result<(), CheckRefusal>
     ensures { result ≡ meetings_answer (S.rows s.now) }
 {
     // A search through pairs that is left by its label is one of the fixed forms (docs/DECISIONS.md).
+    let n = s.count();
     let mut found = Ok(());
-    'search: for (i, h) in Rows::of(s).enumerate() {
+    'search: for (i, h) in Rows::at(s, 0..n).enumerate() {
         let l = h.segment();
-        for g in Rows::from_place(s, i + 1) {
+        for g in Rows::at(s, i + 1..n) {
             if g.dominating.x > l.high.x {
                 break;
             }
@@ -93,7 +94,10 @@ fn check_meetings<S: Source>(s: &S) -> Result<(), CheckRefusal>
 fn is_odd_corner<S: Source>(s: &S, v: Point) -> bool
     ensures { result ≡ odd (degree (S.rows s.now) v) }
 {
-    Rows::of(s).filter(|h| h.dominating == v).count() % 2 == 1
+    // By `&`, since this is the innermost step of check, and `==` on points would branch at each row.
+    Rows::of(s).fold(false, |is_odd, h| {
+        is_odd != ((h.dominating.x == v.x) & (h.dominating.y == v.y))
+    })
 }
 
 /// Whether each corner has an even number of rows.
