@@ -1,4 +1,4 @@
-pub mod Numerals
+pub mod Naturals
 pub mod Parts
 pub mod Fields
 pub mod Filling

@@ -9,7 +9,7 @@ use Rattle.plantext.specs.Text.{pieces}
 use Rattle.plantext.specs.Plans.{no_last, lines_of}
 
 -- x comes off the front of xs, and the rest is left, or nothing is
-pub split_part : (c : ℕ) (xs x rest : List ℕ) (done : Bool) → MatchBool done (xs ≡ x) ((y : ℕ) × (xs ≡ x ++ (y ∷ rest))) → IsFirstMatchOrLen (λ b. eqb b c) xs (length x) → pieces c xs ≡ x ∷ cond done [] (pieces c rest)
+split_part : (c : ℕ) (xs x rest : List ℕ) (done : Bool) → MatchBool done (xs ≡ x) ((y : ℕ) × (xs ≡ x ++ (y ∷ rest))) → IsFirstMatchOrLen (λ b. eqb b c) xs (length x) → pieces c xs ≡ x ∷ cond done [] (pieces c rest)
 split_part c xs x rest true e h =
     ap (pieces c) e ∙ slice_split_none (λ b. eqb b c) x (λ k d l. subst (λ (ys : List ℕ). eqb (get_or ys k d) c ≡ false) e (h.0 k d (omega arith) l))
 split_part c xs x rest false e h =
