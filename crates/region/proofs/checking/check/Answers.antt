@@ -1,6 +1,17 @@
+use Rattle.std.proofs.Common.{◌≡◌, [], ◌∷◌, List, length, Ok, refl, arith}
 use Rattle.std.proofs.lemmas.Result.{err_from_is_err_and}
+use Rattle.plane.specs.declared.halfsegment.Halfsegment.{Halfsegment}
+use Rattle.region.specs.Verdict.{Verdict}
 use Rattle.region.proofs.Verdicts.{each_fits, order_rises, twins_there, by_each, by_order, by_twins, by_meetings, by_corners}
 use Rattle.region.proofs.checking.check.Goals as goal
+
+-- where there are no rows, no pass finds anything
+no_rows : (rows : List Halfsegment) → length rows ≡ 0 → Verdict rows (Ok tt)
+no_rows [] e = (by_corners [] (Ok tt) refl refl refl refl refl).1
+no_rows (h ∷ rows) e = absurd (omega (arith, e))
+
+pub returns-then-count-eq0-clause-verdict : goal.returns-then-count-eq0-clause-verdict
+returns-then-count-eq0-clause-verdict g c = no_rows (g.S.Source.rows c.args.s.now) (omega (arith, c.count.ensures, c.if-count-eq0.true))
 
 pub returns-in_err-check_each : goal.returns-in_err-check_each
 returns-in_err-check_each g c =
